@@ -1,0 +1,3 @@
+-- The laws of `little`: Laws for its callers, Turns for its own loops. Assumes nothing.
+pub mod Laws
+pub mod Turns

@@ -1,0 +1,107 @@
+-- The pool's target stays near the exact one. One adjustment rounds once, and rounding is off by at most e half-units, so k adjustments are off by
+-- at most k · e; holding both between 0 and b brings them no further apart. The way to round and its e are parameters.
+--     drift            after k adjustments, for any way to round
+--     target-within    for the way that the pool rounds: at most k units
+--     exact-held       the exact target is a fraction from 0 to b
+--     same-victim      a clean list further than that from the exact target is on the same side of both
+-- Assumes nothing.
+use Prim.Native.Nat.{ℕ, _+_, _*_, _-_, _≤_, _<_, min}
+use native.Mathlib.Nat.{mul-le-mul-right, mul-pos, zero-add, min-le-right, mul-sub, mul-comm, min-eq-left, min-eq-right, lt-of-mul-lt-mul-right, div-mul-le-self, lt-div-mul-add}
+use native.Mathlib.Decide.{decLe}
+use native.Mathlib.Omega.{arith}
+use mathlib.Core.Path.{_≡_, sym, _∙_, ap, subst}
+use mathlib.Core.List.{List, [], _∷_}
+use lib.ListN.{length}
+use borrow.Author.Tests.{lt-ltb, le-ltb}
+use Rattle.model.specs.Numbers.{unit}
+use Rattle.model.specs.Target.{Adjustment, up, down, stepDen, rounded, stepUnits, adjustBy, adjustAllBy, Exact, exactZero, exactStep, exactAll, RoundsWithin, roundingError, Near, WithinUnits, Held, FurtherThan, longer, shorter, aboveTarget, aboveExact}
+use Rattle.model.specs.Request.{victimBy}
+
+min-mul : (a b k : ℕ) → min a b * k ≡ min (a * k) (b * k)
+min-mul a b k = go (decLe a b)
+  where
+    go : Dec (a ≤ b) → min a b * k ≡ min (a * k) (b * k)
+    go (yes h) = rw (min-eq-left h) (sym (min-eq-left (mul-le-mul-right k h)))
+    go (no h) = let l : b ≤ a = omega arith in rw (min-eq-right l) (sym (min-eq-right (mul-le-mul-right k l)))
+
+sub-mul : (a b k : ℕ) → (a - b) * k ≡ a * k - b * k
+sub-mul a b k = rw (mul-comm (a - b) k, mul-comm a k, mul-comm b k) (mul-sub k a b)
+
+-- the targets are τ and n / d, twice their gap at most g; the exact one moves by a / c, the other by q
+module _ (b e g τ n d a c q : ℕ) (above : 2 * (τ * d) ≤ 2 * (unit * n) + g * d) (below : 2 * (unit * n) ≤ 2 * (τ * d) + g * d)
+    (over : 2 * (q * c) ≤ 2 * (unit * a) + e * c) (under : 2 * (unit * a) ≤ 2 * (q * c) + e * c) where
+  near-up : Near (g + e) (min (τ + q) (b * unit)) (record { num = min (n * c + a * d) (b * (d * c)); den = d * c })
+  near-up =
+      record {
+        above = rw (min-mul (τ + q) (b * unit) (d * c)) (omega (arith, mul-le-mul-right c above, mul-le-mul-right d over));
+        below = rw (min-mul (τ + q) (b * unit) (d * c)) (omega (arith, mul-le-mul-right c below, mul-le-mul-right d under));
+      }
+
+  near-down : Near (g + e) (τ - q) (record { num = n * c - a * d; den = d * c })
+  near-down =
+      record {
+        above = rw (sub-mul τ q (d * c)) (omega (arith, mul-le-mul-right c above, mul-le-mul-right d under));
+        below = rw (sub-mul τ q (d * c)) (omega (arith, mul-le-mul-right c below, mul-le-mul-right d over));
+      }
+
+-- every adjustment divides by something
+abbrev pub AllDivide : List Adjustment → Type 0
+AllDivide [] = Unit {0}
+AllDivide (a ∷ as′) = (0 < stepDen a) × AllDivide as′
+
+module _ (b e : ℕ) (round : ℕ → ℕ → ℕ) (ok : RoundsWithin e round) where
+  near-step : (g τ : ℕ) (x : Exact) (a : Adjustment) → 0 < stepDen a → Near g τ x → Near (g + e) (adjustBy round b τ a) (exactStep b x a)
+  near-step g τ x (up k c d) p near =
+      near-up b e g τ (x .num) (x .den) (k .r * d) ((k .r + k .w) * c) (stepUnits round (up k c d)) (near .above) (near .below) (ok .over _ _ p) (ok .under _ _ p)
+  near-step g τ x (down k c d) p near =
+      near-down b e g τ (x .num) (x .den) (k .w * c) ((k .r + k .w) * d) (stepUnits round (down k c d)) (near .above) (near .below) (ok .over _ _ p) (ok .under _ _ p)
+
+  near-steps : (l : List Adjustment) (g τ : ℕ) (x : Exact) → AllDivide l → Near g τ x → Near (g + length l * e) (adjustAllBy round b τ l) (exactAll b x l)
+  near-steps [] g τ x p near = subst (λ k. Near k τ x) (omega arith) near
+  near-steps (a ∷ l) g τ x p near =
+      subst (λ k. Near k (adjustAllBy round b (adjustBy round b τ a) l) (exactAll b (exactStep b x a) l)) (omega arith)
+      (near-steps l (g + e) (adjustBy round b τ a) (exactStep b x a) (p .1) (near-step g τ x a (p .0) near))
+
+  -- from opening, where both are 0
+  pub drift : (l : List Adjustment) → AllDivide l → Near (length l * e) (adjustAllBy round b 0 l) (exactAll b exactZero l)
+  drift l p = rw zero-add at (near-steps l 0 0 exactZero p (record { above = omega arith; below = omega arith }))
+
+-- ---- the way that the pool rounds
+
+pub rounded-within : RoundsWithin roundingError rounded
+rounded-within = record { over = λ n d h. omega (arith, div-mul-le-self n d); under = λ n d h. omega (arith, lt-div-mul-add {a = n} h) }
+
+module _ (b : ℕ) (l : List Adjustment) (p : AllDivide l) where
+  near-exact : Near (length l * roundingError) (adjustAllBy rounded b 0 l) (exactAll b exactZero l)
+  near-exact = drift b roundingError rounded rounded-within l p
+
+  pub target-within : WithinUnits (length l) (adjustAllBy rounded b 0 l) (exactAll b exactZero l)
+  target-within = record { above = omega (arith, near-exact .above); below = omega (arith, near-exact .below) }
+
+-- ---- the exact target is held
+
+held-step : (b : ℕ) (x : Exact) (a : Adjustment) → 0 < stepDen a → Held b x → Held b (exactStep b x a)
+held-step b x (up k c d) p h = record { positive = mul-pos (h .positive) p; most = min-le-right _ _ }
+held-step b x (down k c d) p h =
+    record { positive = mul-pos (h .positive) p; most = omega (arith, mul-le-mul-right ((k .r + k .w) * d) (h .most)) }
+
+held-steps : (b : ℕ) (l : List Adjustment) (x : Exact) → AllDivide l → Held b x → Held b (exactAll b x l)
+held-steps b [] x p h = h
+held-steps b (a ∷ l) x p h = held-steps b l (exactStep b x a) (p .1) (held-step b x a (p .0) h)
+
+pub exact-held : (b : ℕ) (l : List Adjustment) → AllDivide l → Held b (exactAll b exactZero l)
+exact-held b l p = held-steps b l exactZero p (record { positive = omega arith; most = omega arith })
+
+-- ---- the victim
+
+-- a list that is further from the exact target than the targets are apart is on the same side of both
+pub above-same : (k τ c : ℕ) (x : Exact) → WithinUnits k τ x → FurtherThan k c x → aboveTarget c τ ≡ aboveExact c x
+above-same k τ c x near (longer h) =
+    let l : τ < c * unit = lt-of-mul-lt-mul-right (x .den) (omega (arith, near .above)) in
+    lt-ltb τ (c * unit) l ∙ sym (lt-ltb (x .num) (c * x .den) (omega arith))
+above-same k τ c x near (shorter h) =
+    let l : c * unit < τ = lt-of-mul-lt-mul-right (x .den) (omega (arith, near .below)) in
+    le-ltb τ (c * unit) (omega arith) ∙ sym (le-ltb (x .num) (c * x .den) (omega arith))
+
+pub same-victim : (k τ c d : ℕ) (x : Exact) → WithinUnits k τ x → FurtherThan k c x → victimBy (aboveTarget c τ) c d ≡ victimBy (aboveExact c x) c d
+same-victim k τ c d x near far = ap (λ t. victimBy t c d) (above-same k τ c x near far)

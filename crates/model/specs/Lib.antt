@@ -1,0 +1,11 @@
+pub mod Numbers
+pub mod Words
+pub mod Target
+pub mod State
+pub mod Good
+pub mod Request
+pub mod Refusals
+pub mod Bytes
+pub mod Moves
+pub mod Run
+pub mod Table

@@ -1,0 +1,61 @@
+-- The numbers of a pool and their limits.
+-- Assumes nothing.
+use Prim.Native.Nat.{ℕ, _≤_}
+use mathlib.Core.Bool.{Bool, true, false, _&&_}
+use lib.Dec.{eqb, leb}
+
+-- b frames over a store of N pages of P bytes; what a physical read and a physical write cost
+pub record Numbers : Type 0 where
+  pub b : ℕ
+  pub P : ℕ
+  pub N : ℕ
+  pub r : ℕ
+  pub w : ℕ
+
+-- the target is counted in units, 65,536 to a page
+abbrev pub unit : ℕ
+unit = 65536
+
+-- so many calls are served in one opening
+abbrev pub mostServed : ℕ
+mostServed = 1000000000
+
+abbrev pub if-else : {A : Type 0} → Bool → A → A → A
+if-else true a b = a
+if-else false a b = b
+
+abbrev pub between : ℕ → ℕ → ℕ → Bool
+between low x high = leb low x && leb x high
+
+-- "b 1 to 64; P 16 to 4,096; N 1 to 65,536; read cost r and write cost w each 1 to 1,000"
+unfoldable pub inLimits : Numbers → Bool
+inLimits n =
+    between 1 (n .b) 64
+    && (between 16 (n .P) 4096 && (between 1 (n .N) 65536 && (between 1 (n .r) 1000 && between 1 (n .w) 1000)))
+
+-- the same as inequalities
+pub record Limits (n : Numbers) : Type 0 where
+  pub b-low : 1 ≤ n .b
+  pub b-high : n .b ≤ 64
+  pub P-low : 16 ≤ n .P
+  pub P-high : n .P ≤ 4096
+  pub N-low : 1 ≤ n .N
+  pub N-high : n .N ≤ 65536
+  pub r-low : 1 ≤ n .r
+  pub r-high : n .r ≤ 1000
+  pub w-low : 1 ≤ n .w
+  pub w-high : n .w ≤ 1000
+
+-- "Opening with r = 0 and w = 0 means the usual drive, 1 and 4."
+abbrev pub usualRead : ℕ
+usualRead = 1
+
+abbrev pub usualWrite : ℕ
+usualWrite = 4
+
+abbrev pub withUsualDrive : Numbers → Numbers
+withUsualDrive n = record { b = n .b; P = n .P; N = n .N; r = usualRead; w = usualWrite }
+
+-- the numbers that a pool opened with n holds
+unfoldable pub meant : Numbers → Numbers
+meant n = if-else (eqb (n .r) 0 && eqb (n .w) 0) (withUsualDrive n) n

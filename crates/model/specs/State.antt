@@ -1,0 +1,86 @@
+-- What a pool holds, as plain lists and numbers. Every state is made by `opened` and the setters below.
+-- Assumes nothing.
+use Prim.Native.Nat.{ℕ, _+_, _*_}
+use mathlib.Core.List.{List, []}
+use lib.ListN.{getD, set, replicate}
+use Rattle.order.specs.Lists.{downFrom}
+use Rattle.order.specs.Count.{count}
+use Rattle.model.specs.Numbers.{Numbers}
+use Rattle.model.specs.Target.{Costs}
+
+-- frame numbers, the most recently used first: empty, clean, dirty
+pub record Lists : Type 0 where
+  pub E : List ℕ
+  pub C : List ℕ
+  pub D : List ℕ
+
+-- served calls, physical reads, physical writes
+pub record Counts : Type 0 where
+  pub served : ℕ
+  pub nR : ℕ
+  pub nW : ℕ
+
+pub record State : Type 0 where
+  pub numbers : Numbers
+  pub lists : Lists
+  -- the page in each of the b frames
+  pub page : List ℕ
+  pub target : ℕ
+  pub counts : Counts
+
+-- "E = b−1, .., 1, 0 (frame 0 is the tail and taken first), C and D empty, everything else 0"
+abbrev pub opened : Numbers → State
+opened n =
+    record {
+      numbers = n;
+      lists = record { E = downFrom (n .b); C = []; D = [] };
+      page = replicate (n .b) 0;
+      target = 0;
+      counts = record { served = 0; nR = 0; nW = 0 };
+    }
+
+-- ---- setters
+
+abbrev pub withLists : List ℕ → List ℕ → List ℕ → State → State
+withLists e c d s =
+    record { numbers = s .numbers; lists = record { E = e; C = c; D = d }; page = s .page; target = s .target; counts = s .counts }
+
+-- page q is in frame f
+abbrev pub withPageIn : ℕ → ℕ → State → State
+withPageIn f q s =
+    record { numbers = s .numbers; lists = s .lists; page = set (s .page) f q; target = s .target; counts = s .counts }
+
+abbrev pub withTarget : ℕ → State → State
+withTarget τ s =
+    record { numbers = s .numbers; lists = s .lists; page = s .page; target = τ; counts = s .counts }
+
+-- one more served call, with so many physical reads and writes
+abbrev pub counted : ℕ → ℕ → State → State
+counted reads writes s =
+    record {
+      numbers = s .numbers;
+      lists = s .lists;
+      page = s .page;
+      target = s .target;
+      counts = record { served = s .counts .served + 1; nR = s .counts .nR + reads; nW = s .counts .nW + writes };
+    }
+
+-- ---- readers
+
+abbrev pub pageIn : State → ℕ → ℕ
+pageIn s f = getD (s .page) f 0
+
+-- the costs in force: those that the pool was opened with
+abbrev pub costsOf : State → Costs
+costsOf s = record { r = s .numbers .r; w = s .numbers .w }
+
+-- how often a frame stands in C and D, and in all three lists
+abbrev pub resident : Lists → ℕ → ℕ
+resident l f = count f (l .C) + count f (l .D)
+
+abbrev pub standing : Lists → ℕ → ℕ
+standing l f = count f (l .E) + resident l f
+
+-- nR × r + nW × w
+abbrev pub totalCost : State → ℕ
+totalCost s = s .counts .nR * s .numbers .r + s .counts .nW * s .numbers .w

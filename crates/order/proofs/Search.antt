@@ -1,0 +1,70 @@
+-- Laws of the search for a page.
+--     findFrom-hit, findFrom-miss, findFrom-end    a loop from the front, over the frames that are left: it finds, goes on, or is through
+--     findFrom-below, findFrom-at    a place that is found is one of the list, and its frame holds the page
+--     findFrom-none    of a list where nothing is found no frame holds the page
+-- Assumes nothing.
+use mathlib.Core.Path.{_≡_}
+use mathlib.Core.Logic.{_⊎_, inl, inr, ⊎-elim, dite, _≢_}
+use Prim.Native.Nat.{ℕ, zero, suc, _+_, _≤_, _<_}
+use native.Mathlib.Decide.{ℕ-discrete}
+use native.Mathlib.Numerals.{add-one}
+use native.Mathlib.Omega.{arith}
+use mathlib.Core.List.{List, [], _∷_}
+use lib.ListN.{length, getD, take, drop, drop-of-length-le}
+use lib.Seq.{length-take-le, drop-cons, getD-take}
+use borrow.Author.Tests.{eq-eqb, ne-eqb}
+use Rattle.order.specs.Count.{count}
+use Rattle.order.specs.Find.{findFrom}
+use Rattle.order.specs.declared.Found.the-variants.{At, Nowhere}
+use Rattle.order.proofs.Count.{bit-other}
+
+module _ (page : List ℕ) (wanted : ℕ) where
+  -- ---- a loop over the first n
+
+  module _ (list : List ℕ) (n i : ℕ) (l : n ≤ length list) where
+    next : i < n → drop i (take n list) ≡ getD list i 0 ∷ drop (i + 1) (take n list)
+    next h =
+        let k : i < length (take n list) = omega (arith, length-take-le n list l) in
+        rw (add-one, drop-cons (take n list) i 0 k, getD-take n list i 0 h)
+
+    pub findFrom-hit : i < n → getD page (getD list i 0) 0 ≡ wanted → findFrom i page wanted (drop i (take n list)) ≡ At i
+    findFrom-hit h e = rw (next h, eq-eqb _ _ e)
+
+    pub findFrom-miss : i < n → getD page (getD list i 0) 0 ≢ wanted
+        → findFrom (i + 1) page wanted (drop (i + 1) (take n list)) ≡ findFrom i page wanted (drop i (take n list))
+    findFrom-miss h e = rw (next h, ne-eqb _ _ e, add-one)
+
+    pub findFrom-end : n ≤ i → findFrom i page wanted (drop i (take n list)) ≡ Nowhere
+    findFrom-end h = let k : length (take n list) ≤ i = omega (arith, length-take-le n list l) in rw (drop-of-length-le (take n list) k)
+
+  -- ---- what a search tells
+
+  found : (k f : ℕ) (fs : List ℕ) (i : ℕ) → findFrom k page wanted (f ∷ fs) ≡ At i
+      → ((k ≡ i) × (getD page f 0 ≡ wanted)) ⊎ (findFrom (suc k) page wanted fs ≡ At i)
+  found k f fs i e =
+      dite (ℕ-discrete (getD page f 0) wanted)
+      (λ y. let d : At k ≡ At i = rw (eq-eqb _ _ y) at e in inl (cc, y))
+      (λ n. inr (rw (ne-eqb _ _ n) at e))
+
+  findFrom-above : (k : ℕ) (fs : List ℕ) (i : ℕ) → findFrom k page wanted fs ≡ At i → k ≤ i
+  findFrom-above k [] i e = let z : _≡_ {A = ℕ} 0 1 = cc in omega arith
+  findFrom-above k (f ∷ fs) i e = ⊎-elim (λ h. omega arith) (λ d. omega (arith, findFrom-above (suc k) fs i d)) (found k f fs i e)
+
+  pub findFrom-below : (k : ℕ) (fs : List ℕ) (i : ℕ) → findFrom k page wanted fs ≡ At i → i < k + length fs
+  findFrom-below k [] i e = let z : _≡_ {A = ℕ} 0 1 = cc in omega arith
+  findFrom-below k (f ∷ fs) i e = ⊎-elim (λ h. omega arith) (λ d. omega (arith, findFrom-below (suc k) fs i d)) (found k f fs i e)
+
+  pub findFrom-at : (k : ℕ) (fs : List ℕ) (i j : ℕ) → i ≡ k + j → findFrom k page wanted fs ≡ At i → getD page (getD fs j 0) 0 ≡ wanted
+  findFrom-at k [] i j x e = let z : _≡_ {A = ℕ} 0 1 = cc in absurd (omega arith)
+  findFrom-at k (f ∷ fs) i zero x e = ⊎-elim (λ h. h .1) (λ d. absurd (omega (arith, findFrom-above (suc k) fs i d))) (found k f fs i e)
+  findFrom-at k (f ∷ fs) i (suc j) x e = ⊎-elim (λ h. absurd (omega arith)) (λ d. findFrom-at (suc k) fs i j (omega arith) d) (found k f fs i e)
+
+  pub findFrom-none : (k : ℕ) (fs : List ℕ) → findFrom k page wanted fs ≡ Nowhere → (f : ℕ) → 1 ≤ count f fs → getD page f 0 ≢ wanted
+  findFrom-none k [] e f c x = omega arith
+  findFrom-none k (g ∷ fs) e f c x =
+      dite (ℕ-discrete (getD page g 0) wanted)
+      (λ y. let d : At k ≡ Nowhere = rw (eq-eqb _ _ y) at e in let z : _≡_ {A = ℕ} 0 1 = cc in omega arith)
+      (λ n.
+      let d : findFrom (suc k) page wanted fs ≡ Nowhere = rw (ne-eqb _ _ n) at e in
+      let m : g ≢ f = λ (j : g ≡ f). n (rw j x) in
+      findFrom-none (suc k) fs d f (omega (arith, bit-other g f m)) x)

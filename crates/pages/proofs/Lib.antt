@@ -1,0 +1,4 @@
+pub mod Copy
+pub mod Splice
+pub mod Pages
+pub mod Memory

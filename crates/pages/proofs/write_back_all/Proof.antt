@@ -1,0 +1,71 @@
+-- `pages::write_back_all` meets its contract. The loop's invariant: the frames from place i of the list on are in the store, which is as
+-- long as it was; a turn writes one frame more. The measure is i. Assumes nothing.
+use mathlib.Core.Path.{_≡_, refl, sym}
+use Prim.Native.Nat.{_≤_, _-_}
+use native.Mathlib.Omega.{arith}
+use lib.ListN.{length, getD, take, drop}
+use borrow.Author.Needs.{needs}
+use Rattle.pages.specs.Memory.{writtenBack, FrameIn}
+use Rattle.pages.proofs.Memory.{writtenBack-none, writtenBack-more}
+use Rattle.pages.proofs.write_back_all.Statement.{statement}
+use Rattle.pages.proofs.write_back_all.Tie as tie
+
+abbrev Inv-loop : tie.InvT-loop
+Inv-loop store₀ frames n size list page i₀ store i = (i ≤ n) × (length store ≡ length store₀) × (store ≡ writtenBack size page frames (drop i (take n list)) store₀)
+
+abbrev μ-loop : tie.MeasureT-loop
+μ-loop store₀ frames n size list page i₀ store i = i
+
+loop-holds : tie.Need-loop-holds Inv-loop μ-loop
+loop-holds c =
+    let s = c .before .before .args in
+    (omega arith, refl, sym (writtenBack-none _ (s .n) _ _ (s .t3) _))
+
+-- the frame that a turn writes
+here : (c : tie.In-loop Inv-loop μ-loop) → let s = c .before .before .before .before .args in FrameIn (s .size) (s .t5) (length (s .frames .now)) (length (s .store .now)) (getD (s .t3) (c .before .loop .i - 1) 0)
+here c = c .before .before .before .before .pre .1 (c .before .loop .i - 1) (omega arith)
+
+sub-i : tie.Need-sub-i Inv-loop μ-loop
+sub-i c = search needs
+
+array-read-f : tie.Need-array-read-f Inv-loop μ-loop
+array-read-f c = search needs
+
+cast-f : tie.Need-cast-f Inv-loop μ-loop
+cast-f c = search needs
+
+mul-q : tie.Need-mul-q Inv-loop μ-loop
+mul-q c = omega (arith, here c)
+
+array-read-q : tie.Need-array-read-q Inv-loop μ-loop
+array-read-q c = here c .small
+
+cast-q : tie.Need-cast-q Inv-loop μ-loop
+cast-q c = search needs
+
+write-back-requires : tie.Need-write-back-requires Inv-loop μ-loop
+write-back-requires c κs =
+    let w = here (c .before) in
+    (omega (arith, w .stored), w .frame)
+
+loop-less : tie.Need-loop-less Inv-loop μ-loop
+loop-less c = search needs
+
+loop-again : tie.Need-loop-again Inv-loop μ-loop
+loop-again c =
+    let l = c .before .before .before .before .before .loop in
+    let s = c .before .before .before .before .before .before .before .before .args in
+    let k : s .n ≤ length (s .t3) = search needs in
+    (omega arith, search needs, rw (c .before .before .write-back .ensures, l .inv .2) (writtenBack-more (s .size) (s .n) (l .i) _ _ (s .t3) _ (omega arith) (omega arith) k))
+
+same-length : tie.Need-same-length Inv-loop μ-loop
+same-length c = search needs
+
+returns : tie.Need-returns Inv-loop μ-loop
+returns c =
+    let l = c .before .loop in
+    let z : l .i ≡ 0 = omega arith in
+    rw z at (l .inv .2)
+
+pub write-back-all-spec : {M : Type 1} → statement M
+write-back-all-spec = tie.close (tie.spec Inv-loop μ-loop loop-holds sub-i array-read-f cast-f mul-q array-read-q cast-q write-back-requires loop-less loop-again same-length returns)

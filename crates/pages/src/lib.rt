@@ -1,0 +1,135 @@
+// The bytes of a page buffer: whole pages go between the frame memory and the store, and a write goes to a stretch of a frame.
+// Nothing here knows which page is wanted or which frame is given up: that is the policy's.
+ghost use mathlib.Core.Path.{_≡_};
+ghost use Prim.Native.Nat.{ℕ, _+_, _*_, _≤_, _<_};
+ghost use lib.ListN.{length, getD, take};
+ghost use Rattle.order.specs.Places.{places};
+ghost use Rattle.pages.specs.Pages.{splice, pageOf, withPage, InPages};
+ghost use Rattle.pages.specs.Memory.{writtenBack, FrameIn, sizesMatch};
+use order::PLACES;
+
+// `to` becomes `from`.
+fn copy_page(to: &mut [u8], from: &[u8])
+    requires { ⌜ length (now to) ≡ length (now from) ⌝ }
+    ensures { λ _. ⌜ now (to .exit) ≡ now (from .entry) ⌝ }
+{
+    let mut i = 0;
+    while i < from.len() {
+        to[i] = from[i];
+        i += 1;
+    }
+}
+
+// Page `index` of `all` becomes `bytes`, and no other byte changes.
+fn put_page(all: &mut [u8], size: usize, index: usize, bytes: &[u8])
+    requires { ⌜ length (now bytes) ≡ size ⌝ }
+    requires { ⌜ InPages size index (length (now all)) ⌝ }
+    ensures { λ _. ⌜ now (all .exit) ≡ withPage size index (now (bytes .entry)) (now (all .entry)) ⌝ }
+{
+    let at = index * size;
+    let end = at + size;
+    copy_page(&mut all[at..end], bytes);
+}
+
+// Page `to` of `dst` becomes page `from` of `src`.
+fn move_page(dst: &mut [u8], to: usize, src: &[u8], from: usize, size: usize)
+    requires { ⌜ InPages size to (length (now dst)) ⌝ }
+    requires { ⌜ InPages size from (length (now src)) ⌝ }
+    ensures { λ _. ⌜ now (dst .exit) ≡ withPage size to (pageOf size from (now (src .entry))) (now (dst .entry)) ⌝ }
+{
+    let at = from * size;
+    let end = at + size;
+    put_page(dst, size, to, &src[at..end]);
+}
+
+// The bytes of a frame go to their page of the store.
+pub fn write_back(store: &mut [u8], page: usize, frames: &[u8], frame: usize, size: usize)
+    requires { ⌜ InPages size page (length (now store)) ⌝ }
+    requires { ⌜ InPages size frame (length (now frames)) ⌝ }
+    ensures { λ _. ⌜ now (store .exit) ≡ withPage size page (pageOf size frame (now (frames .entry))) (now (store .entry)) ⌝ }
+{
+    move_page(store, page, frames, frame, size);
+}
+
+// A page of the store comes into a frame.
+pub fn fetch(frames: &mut [u8], frame: usize, store: &[u8], page: usize, size: usize)
+    requires { ⌜ InPages size frame (length (now frames)) ⌝ }
+    requires { ⌜ InPages size page (length (now store)) ⌝ }
+    ensures { λ _. ⌜ now (frames .exit) ≡ withPage size frame (pageOf size page (now (store .entry))) (now (frames .entry)) ⌝ }
+{
+    move_page(frames, frame, store, page, size);
+}
+
+// A changed page leaves its frame and another comes: the write-back is first, or the change would be lost.
+pub fn replace(
+    frames: &mut [u8],
+    frame: usize,
+    store: &mut [u8],
+    old: usize,
+    new: usize,
+    size: usize,
+)
+    requires { ⌜ InPages size frame (length (now frames)) ⌝ }
+    requires { ⌜ InPages size old (length (now store)) ⌝ }
+    requires { ⌜ InPages size new (length (now store)) ⌝ }
+    ensures { λ _. ⌜ now (store .exit) ≡ withPage size old (pageOf size frame (now (frames .entry))) (now (store .entry)) ⌝ }
+    ensures { λ _. ⌜ now (frames .exit) ≡ withPage size frame (pageOf size new (now (store .exit))) (now (frames .entry)) ⌝ }
+{
+    write_back(store, old, frames, frame, size);
+    fetch(frames, frame, store, new, size);
+}
+
+// The stretch of a frame from its byte `start` on becomes `bytes`.
+pub fn overlay(frames: &mut [u8], frame: usize, start: usize, bytes: &[u8], size: usize)
+    requires { ⌜ InPages size frame (length (now frames)) ⌝ }
+    requires { ⌜ start + length (now bytes) ≤ size ⌝ }
+    ensures { λ _. ⌜ now (frames .exit) ≡ splice (frame * size + start) (now (bytes .entry)) (now (frames .entry)) ⌝ }
+{
+    let at = frame * size + start;
+    let end = at + bytes.len();
+    copy_page(&mut frames[at..end], bytes);
+}
+
+// `out` becomes the bytes of a frame.
+pub fn copy_out(out: &mut [u8], frames: &[u8], frame: usize, size: usize)
+    requires { ⌜ length (now out) ≡ size ⌝ }
+    requires { ⌜ InPages size frame (length (now frames)) ⌝ }
+    ensures { λ _. ⌜ now (out .exit) ≡ pageOf size frame (now (frames .entry)) ⌝ }
+{
+    let at = frame * size;
+    let end = at + size;
+    copy_page(out, &frames[at..end]);
+}
+
+// The first n frames of a list are written to their pages, the last of them first.
+pub fn write_back_all(
+    store: &mut [u8],
+    frames: &[u8],
+    list: [u8; PLACES],
+    n: usize,
+    page: [u16; PLACES],
+    size: usize,
+)
+    requires { ⌜ n ≤ places ⌝ }
+    requires { ⌜ ((k : ℕ) → k < n → FrameIn size page (length (now frames)) (length (now store)) (getD list k 0)) ⌝ }
+    ensures { λ _. ⌜ now (store .exit) ≡ writtenBack size page (now (frames .entry)) (take n list) (now (store .entry)) ⌝ }
+{
+    let mut i = n;
+    while 0 < i {
+        i -= 1;
+        let f = list[i] as usize;
+        let q = page[f] as usize;
+        write_back(store, q, frames, f, size);
+    }
+}
+
+// Whether `m` bytes of frame memory and `n` bytes of store are b frames and N pages of `size` bytes.
+pub fn sizes_match(m: usize, n: usize, b: usize, pages: usize, size: usize) -> bool
+    requires { ⌜ (b ≤ places) × (pages ≤ 65536) × (size ≤ 4096) ⌝ }
+    ensures { λ r. ⌜ r ≡ sizesMatch size b pages m n ⌝ }
+{
+    if m != b * size {
+        return false;
+    }
+    n == pages * size
+}
