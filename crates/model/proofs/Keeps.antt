@@ -24,7 +24,7 @@ use Rattle.model.specs.Numbers.{unit, mostServed, if-else}
 use Rattle.model.specs.Target.{Costs, up, down, adjust, aboveTarget}
 use Rattle.model.specs.State.{State, withLists, withPageIn, withTarget, counted, pageIn, resident, standing}
 use Rattle.model.specs.Good.{Good, Blank}
-use Rattle.model.specs.Request.{placeBy, locate, chosenBy, chosen, taken, writesOf, Outcome, faultInto, faulted, requestAt, request, flushed}
+use Rattle.model.specs.Request.{placeBy, locate, chosenBy, ChoiceIn, chosen, taken, writesOf, Outcome, faultInto, faulted, requestAt, request, flushed}
 use Rattle.model.specs.declared.Op.{Op}
 use Rattle.model.specs.declared.Op.the-variants.{Read, Write}
 use Rattle.model.specs.declared.Place.{Place}
@@ -56,11 +56,6 @@ locate-right s q = go (findFrom 0 (s .page) q (s .lists .C)) (findFrom 0 (s .pag
         (λ n. findFrom-none (s .page) q 0 (s .lists .D) d f (omega arith))
 
 -- ---- the chosen place is one of its list
-
-abbrev pub ChoiceIn : ℕ → ℕ → ℕ → Choice → Type 0
-ChoiceIn e c d (OfEmpty i) = i < e
-ChoiceIn e c d (OfClean i) = i < c
-ChoiceIn e c d (OfDirty i) = i < d
 
 -- a list that is above the target has a place
 above-some : (c τ : ℕ) → aboveTarget c τ ≡ true → 0 < c

@@ -16,7 +16,7 @@ use Rattle.model.specs.Target.{Costs}
 use Rattle.model.specs.Numbers.{Numbers}
 use Rattle.model.specs.State.{State, opened, withLists, pageIn, resident}
 use Rattle.model.specs.Good.{Good}
-use Rattle.model.specs.Request.{locate, chosen, taken, Outcome, faultInto, faulted, requestAt, request, flushed}
+use Rattle.model.specs.Request.{locate, chosen, ChoiceIn, taken, Outcome, faultInto, faulted, requestAt, request, flushed}
 use Rattle.model.specs.Bytes.{Memory}
 use Rattle.model.specs.Moves.{Holding, vacant, clean, dirty, Has, Loose, Buffer, put}
 use Rattle.model.specs.declared.Op.{Op}
@@ -29,7 +29,7 @@ use Rattle.model.specs.declared.Victim.{Victim}
 use Rattle.model.specs.declared.Victim.the-variants.{None, Clean, Dirty}
 use Rattle.model.specs.declared.Answer.the-variants.{Fault}
 use Rattle.model.proofs.Good.{standing-below, standing-once, lengths-sum}
-use Rattle.model.proofs.Keeps.{PlaceRight, locate-right, ChoiceIn, chosen-in, Leaves, empty-leaves, clean-leaves, dirty-leaves}
+use Rattle.model.proofs.Keeps.{PlaceRight, locate-right, chosen-in, Leaves, empty-leaves, clean-leaves, dirty-leaves}
 use Rattle.model.proofs.Moves.{put-same, put-other, at-or-off}
 use Rattle.model.proofs.Outcomes.{AnswerRight, holdsAfter, cleanedBy, cleanedBy-in, cleanedBy-out}
 

@@ -4,7 +4,7 @@
 --     taken      that frame out of its list, with its victim
 --     request    the next state, the frame that has the page, and the answer
 -- Assumes nothing.
-use Prim.Native.Nat.{ℕ, _-_}
+use Prim.Native.Nat.{ℕ, _-_, _<_}
 use mathlib.Core.Bool.{Bool}
 use mathlib.Core.List.{[], _∷_, _++_}
 use lib.ListN.{length, getD}
@@ -49,6 +49,12 @@ chosenBy e c d τ = if-else (ltb 0 e) (OfEmpty (e - 1)) (victimBy (aboveTarget c
 
 abbrev pub chosen : State → Choice
 chosen s = chosenBy (length (s .lists .E)) (length (s .lists .C)) (length (s .lists .D)) (s .target)
+
+-- the chosen place is one of its list, of e empty, c clean and d dirty frames
+abbrev pub ChoiceIn : ℕ → ℕ → ℕ → Choice → Type 0
+ChoiceIn e c d (OfEmpty i) = i < e
+ChoiceIn e c d (OfClean i) = i < c
+ChoiceIn e c d (OfDirty i) = i < d
 
 -- ---- the chosen frame leaves its list
 
