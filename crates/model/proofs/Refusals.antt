@@ -24,7 +24,7 @@ first-clear (x ∷ xs) e = go (x .when) refl e (first-clear xs)
     go true h d ih = let z : _≡_ {A = ℕ} 0 1 = cc in absurd (omega arith)
     go false h d ih = (h, ih d)
 
-not-false : (t : Bool) → not t ≡ false → t ≡ true
+pub not-false : (t : Bool) → not t ≡ false → t ≡ true
 not-false true e = refl
 not-false false e = sym e
 

@@ -28,7 +28,7 @@ first (x ∷ xs) = verdictBy (x .when) (x .why) (first xs)
 -- ---- the conditions
 
 abbrev pub outOfLimits : Numbers → Row
-outOfLimits n = record { when = not (inLimits (meant n)); why = OutOfLimits }
+outOfLimits n = record { when = not (inLimits n); why = OutOfLimits }
 
 abbrev pub brokenPool : Bool → Row
 brokenPool sound = record { when = not sound; why = BrokenPool }
@@ -56,7 +56,7 @@ stretchFits P start n = ltb 0 n && leb (start + n) P
 -- ---- the order in each call
 
 abbrev pub openRows : Numbers → List Row
-openRows n = outOfLimits n ∷ []
+openRows n = outOfLimits (meant n) ∷ []
 
 -- of a read or a write: whether the pool is sound, the state it holds, the bytes lent, the page, whether the caller's bytes fit
 abbrev pub requestRows : Bool → State → ℕ → ℕ → ℕ → Bool → List Row

@@ -1,0 +1,6 @@
+pub mod Verdicts
+pub mod Brought
+pub mod Opening
+pub mod Calls
+pub mod Sound
+pub mod Settled

@@ -1,0 +1,83 @@
+-- Which row refuses: each row of a table, where its condition holds and those before it do not; and whether a stretch fits.
+-- Assumes nothing.
+use mathlib.Core.Path.{_≡_, refl, sym, ap, _∙_}
+use mathlib.Core.Bool.{Bool, true, false}
+use mathlib.Core.Logic.{dite}
+use Prim.Native.Nat.{ℕ, _+_, _-_, _≤_, _<_}
+use native.Mathlib.Decide.{decLe}
+use native.Mathlib.Omega.{arith}
+use lib.Dec.{leb, ltb}
+use borrow.Author.Tests.{lt-ltb, le-ltb, le-leb, lt-leb}
+use Rattle.pages.specs.Memory.{sizesMatch}
+use Rattle.model.specs.Numbers.{mostServed}
+use Rattle.model.specs.State.{State}
+use Rattle.model.specs.Refusals.{requestVerdict, flushVerdict, stretchFits}
+use Rattle.model.specs.declared.Refusal.the-variants.{BrokenPool, WrongMemory, NoSuchPage, WrongBytes, Spent}
+use Rattle.model.specs.declared.Verdict.the-variants.{Fine, Refused}
+
+abbrev sized : State → ℕ → ℕ → Bool
+sized s m n = sizesMatch (s .numbers .P) (s .numbers .b) (s .numbers .N) m n
+
+module _ (sound : Bool) (s : State) (m n : ℕ) where
+  -- ---- a read or a write
+
+  module _ (page : ℕ) (fit : Bool) where
+    pub request-broken : sound ≡ false → Refused BrokenPool ≡ requestVerdict sound s m n page fit
+    unfolding requestVerdict
+    request-broken a = rw a
+
+    pub request-memory : sound ≡ true → sized s m n ≡ false → Refused WrongMemory ≡ requestVerdict sound s m n page fit
+    unfolding requestVerdict
+    request-memory a b = rw (a, b)
+
+    module _ (a : sound ≡ true) (b : sized s m n ≡ true) where
+      pub request-page : s .numbers .N ≤ page → Refused NoSuchPage ≡ requestVerdict sound s m n page fit
+      unfolding requestVerdict
+      request-page c = rw (a, b, le-leb _ _ c)
+
+      pub request-bytes : page < s .numbers .N → fit ≡ false → Refused WrongBytes ≡ requestVerdict sound s m n page fit
+      unfolding requestVerdict
+      request-bytes c d = rw (a, b, lt-leb _ _ c, d)
+
+      pub request-spent : page < s .numbers .N → fit ≡ true → mostServed ≤ s .counts .served → Refused Spent ≡ requestVerdict sound s m n page fit
+      unfolding requestVerdict
+      request-spent c d e = rw (a, b, lt-leb _ _ c, d, le-leb _ _ e)
+
+      pub request-fine : page < s .numbers .N → fit ≡ true → s .counts .served < mostServed → Fine ≡ requestVerdict sound s m n page fit
+      unfolding requestVerdict
+      request-fine c d e = rw (a, b, lt-leb _ _ c, d, lt-leb _ _ e)
+
+  -- ---- a flush
+
+  pub flush-broken : sound ≡ false → Refused BrokenPool ≡ flushVerdict sound s m n
+  unfolding flushVerdict
+  flush-broken a = rw a
+
+  pub flush-memory : sound ≡ true → sized s m n ≡ false → Refused WrongMemory ≡ flushVerdict sound s m n
+  unfolding flushVerdict
+  flush-memory a b = rw (a, b)
+
+  module _ (a : sound ≡ true) (b : sized s m n ≡ true) where
+    pub flush-spent : mostServed ≤ s .counts .served → Refused Spent ≡ flushVerdict sound s m n
+    unfolding flushVerdict
+    flush-spent e = rw (a, b, le-leb _ _ e)
+
+    pub flush-fine : s .counts .served < mostServed → Fine ≡ flushVerdict sound s m n
+    unfolding flushVerdict
+    flush-fine e = rw (a, b, lt-leb _ _ e)
+
+-- ---- a stretch of n bytes from `start` on
+
+module _ (P start n : ℕ) where
+  pub stretch-none : n ≡ 0 → false ≡ stretchFits P start n
+  stretch-none e = rw (le-ltb 0 n (omega arith))
+
+  pub stretch-past : (n ≡ 0 → ⊥) → P < start → false ≡ stretchFits P start n
+  stretch-past e h = let l : 0 < n = omega arith in let k : P < start + n = omega arith in rw (lt-ltb 0 n l, lt-leb (start + n) P k)
+
+  pub stretch-within : (n ≡ 0 → ⊥) → start ≤ P → leb n (P - start) ≡ stretchFits P start n
+  stretch-within e h =
+      let l : 0 < n = omega arith in
+      dite (decLe n (P - start))
+      (λ (a : n ≤ P - start). let k : start + n ≤ P = omega arith in rw (lt-ltb 0 n l, le-leb (start + n) P k, le-leb n (P - start) a))
+      (λ b. let k : P < start + n = omega arith in let c : P - start < n = omega arith in rw (lt-ltb 0 n l, lt-leb (start + n) P k, lt-leb n (P - start) c))

@@ -1,0 +1,56 @@
+-- `casa::all_frames` meets its contract. The loop's invariant: the list holds k - 1, .., 0; a turn puts k before them. The measure is what is left of n.
+-- Assumes nothing.
+use mathlib.Core.Path.{_≡_}
+use Prim.Native.Nat.{_≤_, _-_}
+use native.Mathlib.Numerals.{add-one}
+use native.Mathlib.Omega.{arith}
+use lib.ListN.{length}
+use borrow.Author.Needs.{needs}
+use Rattle.order.proofs.Places.{holds-none, holds-cons}
+use Rattle.order.specs.Lists.{downFrom}
+use Rattle.order.specs.Places.{places, Holds}
+use Rattle.casa.proofs.all_frames.Statement.{statement}
+use Rattle.casa.proofs.all_frames.Tie as tie
+
+abbrev Inv-loop : tie.InvT-loop
+Inv-loop n list₀ k₀ list k = (length list ≡ places) × (k ≤ n) × Holds list k (downFrom k)
+
+abbrev μ-loop : tie.MeasureT-loop
+μ-loop n list₀ k₀ list k = n - k
+
+loop-holds : tie.Need-loop-holds Inv-loop μ-loop
+loop-holds c = (search needs, search needs, holds-none)
+
+cast-put-front : tie.Need-cast-put-front Inv-loop μ-loop
+cast-put-front c = search needs
+
+put-front-requires : tie.Need-put-front-requires Inv-loop μ-loop
+put-front-requires c κs = search needs
+
+add-k : tie.Need-add-k Inv-loop μ-loop
+add-k c = search needs
+
+loop-less : tie.Need-loop-less Inv-loop μ-loop
+loop-less c = search needs
+
+loop-again : tie.Need-loop-again Inv-loop μ-loop
+loop-again c =
+    let l = c .before .before .loop in
+    (search needs, search needs, rw (c .put-front .ensures, add-one) (rw add-one at (holds-cons (l .inv .2) (l .k) (search needs))))
+
+returns : tie.Need-returns Inv-loop μ-loop
+returns c = let l = c .before .loop in let e : l .k ≡ c .before .before .args .n = omega arith in rw (← e) (l .inv .2)
+
+pub all-frames-spec : {M : Type 1} → statement M
+all-frames-spec =
+    tie.close
+    (tie.spec
+    Inv-loop
+    μ-loop
+    loop-holds
+    cast-put-front
+    put-front-requires
+    add-k
+    loop-less
+    loop-again
+    returns)

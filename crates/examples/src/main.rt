@@ -1,0 +1,382 @@
+// Runs the scope's worked examples that concern calls, on both sides of each edge, and prints what came out.
+ghost use Prim.Native.Nat.{_≤_};
+ghost use lib.ListN.{length};
+use casa::Flushed;
+use casa::Served;
+use libc::STDOUT_FILENO;
+use model::Answer;
+use model::Costing;
+use model::Flushing;
+use model::Opening;
+use model::Refusal;
+use model::Victim;
+use pool::Pool;
+
+// ---- words and numbers
+
+fn word(text: &[u8]) {
+    io::write_all(STDOUT_FILENO, text);
+}
+
+fn number(n: u64) {
+    word(b" ");
+    io::print_decimal(STDOUT_FILENO, n);
+}
+
+fn end() {
+    word(b"\n");
+}
+
+fn refused(why: Refusal) {
+    word(b" refused");
+    match why {
+        Refusal::OutOfLimits => number(1),
+        Refusal::BrokenPool => number(2),
+        Refusal::WrongMemory => number(3),
+        Refusal::NoSuchPage => number(4),
+        Refusal::WrongBytes => number(5),
+        Refusal::Spent => number(6),
+        Refusal::NotATrace => number(7),
+        Refusal::BadRecord(_) => number(8),
+        Refusal::LongFile => number(9),
+        Refusal::LargePool => number(10),
+    }
+}
+
+fn tell_victim(victim: Victim) {
+    match victim {
+        Victim::None => {}
+        Victim::Clean(page) => {
+            word(b" clean");
+            number(page as u64);
+        }
+        Victim::Dirty(page) => {
+            word(b" dirty");
+            number(page as u64);
+        }
+    }
+}
+
+fn tell_answer(answer: Answer) {
+    match answer {
+        Answer::Refused(why) => refused(why),
+        Answer::Hit => word(b" hit"),
+        Answer::Fault(victim) => {
+            word(b" fault");
+            tell_victim(victim);
+        }
+    }
+}
+
+fn tell_flush(answer: Flushing) {
+    match answer {
+        Flushing::Refused(why) => refused(why),
+        Flushing::Wrote(pages) => {
+            word(b" wrote");
+            number(pages as u64);
+        }
+    }
+}
+
+fn tell_total(pool: Pool) {
+    word(b"total");
+    match casa::total(pool) {
+        Costing::Refused(why) => refused(why),
+        Costing::Total(cost) => number(cost),
+    }
+    end();
+}
+
+// ---- opening
+
+fn try_open(frames: usize, page_bytes: usize, pages: usize, read_cost: u64, write_cost: u64) {
+    word(b"open");
+    number(frames as u64);
+    number(page_bytes as u64);
+    number(pages as u64);
+    number(read_cost);
+    number(write_cost);
+    let opened = casa::open(frames, page_bytes, pages, read_cost, write_cost);
+    let answer = opened.answer;
+    let pool = opened.pool;
+    match answer {
+        Opening::Refused(why) => refused(why),
+        Opening::Opened => {
+            word(b" opened with costs");
+            number(pool.read_cost);
+            number(pool.write_cost);
+        }
+    }
+    end();
+}
+
+fn openings() {
+    try_open(1, 16, 1, 1, 1);
+    try_open(64, 4096, 65536, 1000, 1000);
+    try_open(0, 16, 8, 1, 3);
+    try_open(65, 16, 8, 1, 3);
+    try_open(2, 15, 8, 1, 3);
+    try_open(2, 4097, 8, 1, 3);
+    try_open(2, 16, 0, 1, 3);
+    try_open(2, 16, 65537, 1, 3);
+    try_open(2, 16, 8, 0, 0);
+    try_open(2, 16, 8, 0, 5);
+    try_open(2, 16, 8, 5, 0);
+    try_open(2, 16, 8, 1001, 1);
+    try_open(2, 16, 8, 1, 1001);
+    try_open(
+        18446744073709551615,
+        18446744073709551615,
+        18446744073709551615,
+        18446744073709551615,
+        18446744073709551615,
+    );
+}
+
+// ---- calls that are told in a line
+
+fn read(pool: Pool, page: usize, frames: &mut [u8], store: &mut [u8], out: &mut [u8]) -> Pool {
+    word(b"read");
+    number(page as u64);
+    let served = casa::read_page(pool, page, frames, store, out);
+    let answer = served.answer;
+    let next = served.pool;
+    tell_answer(answer);
+    end();
+    next
+}
+
+fn write(
+    pool: Pool,
+    page: usize,
+    start: usize,
+    bytes: &[u8],
+    frames: &mut [u8],
+    store: &mut [u8],
+) -> Pool {
+    word(b"write");
+    number(page as u64);
+    number(start as u64);
+    number(bytes.len() as u64);
+    let served = casa::write_page(pool, page, start, bytes, frames, store);
+    let answer = served.answer;
+    let next = served.pool;
+    tell_answer(answer);
+    end();
+    next
+}
+
+fn flush(pool: Pool, frames: &[u8], store: &mut [u8]) -> Pool {
+    word(b"flush");
+    let flushed = casa::flush(pool, frames, store);
+    let answer = flushed.answer;
+    let next = flushed.pool;
+    tell_flush(answer);
+    end();
+    next
+}
+
+fn tell_counts(pool: Pool) {
+    word(b"physical reads");
+    number(pool.reads.0);
+    word(b" writes");
+    number(pool.writes.0);
+    word(b" served");
+    number(pool.served);
+    end();
+}
+
+// One frame: W 0, R 1 makes two reads and one write.
+fn one_frame() {
+    let mut frames = [0u8; 16];
+    let mut store = [0u8; 32];
+    let mut out = [0u8; 16];
+    let opened = casa::open(1, 16, 2, 1, 4);
+    let pool = opened.pool;
+    let bytes = [7u8];
+    let wrote = write(pool, 0, 0, &bytes, &mut frames, &mut store);
+    let last = read(wrote, 1, &mut frames, &mut store, &mut out);
+    tell_counts(last);
+    tell_total(last);
+}
+
+// Page N - 1 and N, stretches that end at P and past it, outputs of a wrong length.
+fn pages_and_stretches() {
+    let mut frames = [0u8; 32];
+    let mut store = [0u8; 128];
+    let mut out = [0u8; 16];
+    let mut short = [0u8; 15];
+    let opened = casa::open(2, 16, 8, 1, 3);
+    let pool = opened.pool;
+    let page = [9u8; 16];
+    let one = [9u8];
+    let none = [0u8; 0];
+    let a = read(pool, 7, &mut frames, &mut store, &mut out);
+    let b = read(a, 8, &mut frames, &mut store, &mut out);
+    let c = read(b, 18446744073709551615, &mut frames, &mut store, &mut out);
+    let d = read(c, 7, &mut frames, &mut store, &mut short);
+    let e = read(d, 8, &mut frames, &mut store, &mut short);
+    let f = write(e, 7, 0, &page, &mut frames, &mut store);
+    let g = write(f, 7, 1, &page, &mut frames, &mut store);
+    let h = write(g, 7, 15, &one, &mut frames, &mut store);
+    let i = write(h, 7, 16, &one, &mut frames, &mut store);
+    let j = write(i, 7, 18446744073709551615, &one, &mut frames, &mut store);
+    let k = write(j, 7, 0, &none, &mut frames, &mut store);
+    tell_counts(k);
+}
+
+// 999,999,999 calls served, and one more.
+fn last_calls() {
+    let mut frames = [0u8; 32];
+    let mut store = [0u8; 128];
+    let mut out = [0u8; 16];
+    let opened = casa::open(2, 16, 8, 1, 3);
+    let mut pool = opened.pool;
+    pool.served = 999999999;
+    let a = read(pool, 0, &mut frames, &mut store, &mut out);
+    let b = read(a, 0, &mut frames, &mut store, &mut out);
+    let bytes = [1u8];
+    let c = write(b, 0, 0, &bytes, &mut frames, &mut store);
+    let d = flush(c, &frames, &mut store);
+    tell_counts(d);
+    tell_total(d);
+}
+
+// ---- every set of refusals at once: the lowest number is given, and no byte changes
+
+// Whether bit k of a set of refusals is on: bit 0 stands for refusal 2, up to bit 4 for refusal 6.
+fn has(set: usize, bit: usize) -> bool
+    requires { ⌜ 1 ≤ bit ⌝ }
+{
+    set / bit % 2 == 1
+}
+
+fn sum(bytes: &[u8]) -> u64
+    requires { ⌜ length (now bytes) ≤ 128 ⌝ }
+{
+    let mut n: u64 = 0;
+    let mut i = 0;
+    while i < bytes.len() {
+        n += bytes[i] as u64;
+        i += 1;
+    }
+    n
+}
+
+// A pool with what a set asks: broken, or with every call served.
+fn pool_of(set: usize) -> Pool {
+    let opened = casa::open(2, 16, 8, 1, 3);
+    let mut pool = opened.pool;
+    if has(set, 1) {
+        pool.target = 131073;
+    }
+    if has(set, 16) {
+        pool.served = 1000000000;
+    }
+    pool
+}
+
+fn frames_of(set: usize) -> usize
+    ensures { λ r. ⌜ r ≤ 32 ⌝ }
+{
+    if has(set, 2) {
+        return 31;
+    }
+    32
+}
+
+fn page_of(set: usize) -> usize {
+    if has(set, 4) {
+        return 8;
+    }
+    0
+}
+
+fn length_of(set: usize) -> usize
+    ensures { λ r. ⌜ r ≤ 17 ⌝ }
+{
+    if has(set, 8) {
+        return 17;
+    }
+    16
+}
+
+fn tell_sums(frames: &[u8], store: &[u8])
+    requires { ⌜ (length (now frames) ≤ 128) × (length (now store) ≤ 128) ⌝ }
+{
+    word(b" bytes");
+    number(sum(frames));
+    number(sum(store));
+}
+
+fn read_set(set: usize) {
+    let mut lent = [1u8; 32];
+    let frames: &mut [u8] = &mut lent;
+    let mut store = [2u8; 128];
+    let mut space = [3u8; 17];
+    let out: &mut [u8] = &mut space;
+    let f = frames_of(set);
+    let n = length_of(set);
+    let pool = pool_of(set);
+    let page = page_of(set);
+    let served = casa::read_page(pool, page, &mut frames[0..f], &mut store, &mut out[0..n]);
+    word(b"read set");
+    number(set as u64);
+    let answer = served.answer;
+    tell_answer(answer);
+    tell_sums(frames, &store);
+    number(sum(out));
+    end();
+}
+
+fn write_set(set: usize) {
+    let mut lent = [1u8; 32];
+    let frames: &mut [u8] = &mut lent;
+    let mut store = [2u8; 128];
+    let bytes = [3u8; 17];
+    let f = frames_of(set);
+    let n = length_of(set);
+    let pool = pool_of(set);
+    let page = page_of(set);
+    let served = casa::write_page(pool, page, 0, &bytes[0..n], &mut frames[0..f], &mut store);
+    word(b"write set");
+    number(set as u64);
+    let answer = served.answer;
+    tell_answer(answer);
+    tell_sums(frames, &store);
+    end();
+}
+
+fn flush_set(set: usize) {
+    let frames = [1u8; 32];
+    let mut store = [2u8; 128];
+    let f = frames_of(set);
+    let pool = pool_of(set);
+    let flushed = casa::flush(pool, &frames[0..f], &mut store);
+    word(b"flush set");
+    number(set as u64);
+    let answer = flushed.answer;
+    tell_flush(answer);
+    tell_sums(&frames, &store);
+    end();
+}
+
+fn sets() {
+    let mut set = 0;
+    while set < 32 {
+        read_set(set);
+        write_set(set);
+        flush_set(set);
+        let pool = pool_of(set);
+        tell_total(pool);
+        set += 1;
+    }
+}
+
+fn main() {
+    openings();
+    one_frame();
+    pages_and_stretches();
+    last_calls();
+    sets();
+}

@@ -1,0 +1,92 @@
+-- The answers of the functions of the test: a no where something is wrong, and behind the tests that have passed the answer of the last one.
+--     limits-refused, limits-last, counts-last, lengths-last, tails-last    numbers, counts, lengths, places without meaning
+--     marks-length, frames-decides    the marks of the three lists
+--     pages-last, sound-refused, sound-last    the pages, and the whole
+-- Assumes nothing.
+use mathlib.Core.Path.{_≡_, refl, ap, _∙_}
+use mathlib.Core.Bool.{Bool, true, false}
+use Prim.Native.Nat.{ℕ, _+_, _*_, _-_, _≤_}
+use native.Mathlib.Omega.{arith}
+use mathlib.Core.List.{List, _++_}
+use lib.ListN.{length, take, drop, replicate}
+use lib.Dec.{eqb, leb}
+use Rattle.order.specs.Places.{places}
+use Rattle.model.specs.Numbers.{Numbers, unit, mostServed, inLimits, Limits}
+use Rattle.pool.specs.Parts.{Decides, every, isZero, isSome, isAtMost, zerosIn, marked, blankAll, nonzeroApart, CountsRight, TailsRight, FramesRight, EmptyRight, PagesRight}
+use Rattle.pool.specs.Pool.{Sound}
+use Rattle.pool.specs.Test.{soundB}
+use Rattle.pool.specs.declared.Pool.{Pool}
+use Rattle.pool.proofs.Marks.{marked-length, marked-append}
+use Rattle.pool.proofs.Exact.{exact-iff, exact-eqb, exact-leb}
+use Rattle.pool.proofs.Parts.{LimitsIn, CountsIn, LengthsIn, TailsIn, FramesIn, PagesIn, PartsRight, sound-parts, parts-sound}
+use Rattle.pool.proofs.Decides.{decides-of, decides-test, decides-iff, decides-same, limits-decides, soundB-decides}
+use Rattle.pool.proofs.Frames.{frames-exact}
+use Rattle.pool.proofs.Pages.{pages-test, test-pages}
+
+-- ---- numbers
+
+pub limits-refused : (n : Numbers) → (Limits n → ⊥) → false ≡ inLimits n
+limits-refused n wrong = decides-same (Limits n) false (inLimits n) wrong (limits-decides n (inLimits n) refl)
+
+pub limits-last : (n : Numbers) → (n .w ≤ 1000 → Limits n) → leb (n .w) 1000 ≡ inLimits n
+limits-last n rest =
+    decides-same (Limits n) (leb (n .w) 1000) (inLimits n)
+    (decides-of (leb (n .w) 1000) (exact-iff rest (λ l. l .w-high) (exact-leb (n .w) 1000)))
+    (limits-decides n (inLimits n) refl)
+
+pub counts-last : (b target served nR nW : ℕ) → target ≤ b * unit → served ≤ mostServed → nR ≤ served
+    → Decides (leb nW (b * served)) (CountsRight b target served nR nW)
+counts-last b target served nR nW t s r =
+    decides-of (leb nW (b * served))
+    (exact-iff (λ w. record { target-high = t; served-high = s; reads-high = r; writes-high = w }) (λ c. c .writes-high) (exact-leb nW (b * served)))
+
+pub lengths-last : (b en cn dn : ℕ) → en ≤ b → cn ≤ b - en → Decides (eqb dn (b - en - cn)) (en + (cn + dn) ≡ b)
+lengths-last b en cn dn h k =
+    decides-of (eqb dn (b - en - cn)) (exact-iff (λ e. omega arith) (λ e. omega arith) (exact-eqb dn (b - en - cn)))
+
+pub tails-last : (e : List ℕ) (en : ℕ) (c : List ℕ) (cn : ℕ) (d : List ℕ) (dn : ℕ) (page : List ℕ) (b : ℕ) (t : Bool)
+    → every isZero (drop en e) ≡ true → every isZero (drop cn c) ≡ true → every isZero (drop dn d) ≡ true → t ≡ every isZero (drop b page)
+    → Decides t (TailsRight e en c cn d dn page b)
+tails-last e en c cn d dn page b t he hc hd h =
+    decides-iff t (λ hp. record { empty = he; clean = hc; dirty = hd; pages = hp }) (λ r. r .pages) (decides-test t _ h)
+
+-- ---- frames
+
+module _ (E C D m1 m2 m3 : List ℕ) (e1 : m1 ≡ marked E (replicate 256 0)) (e2 : m2 ≡ marked C m1) (e3 : m3 ≡ marked D m2) where
+  marks-all : m3 ≡ marked (E ++ (C ++ D)) (replicate 256 0)
+  marks-all = rw (e3, e2, e1, marked-append E (C ++ D) (replicate 256 0), marked-append C D)
+
+  pub marks-length : length m3 ≡ 256
+  marks-length = ap length marks-all ∙ marked-length (E ++ (C ++ D)) (replicate 256 0)
+
+  pub frames-decides : (b : ℕ) → b ≤ 256 → length E + (length C + length D) ≡ b → (t : Bool) → t ≡ every isSome (take b m3)
+      → Decides t (FramesRight b E C D)
+  frames-decides b small sum t e =
+      let x : t ≡ every isSome (take b (marked (E ++ (C ++ D)) (replicate 256 0))) = e ∙ ap (λ (m : List ℕ). every isSome (take b m)) marks-all in
+      rw x (decides-of (every isSome (take b (marked (E ++ (C ++ D)) (replicate 256 0)))) (frames-exact b E C D small sum))
+
+-- ---- pages
+
+pub pages-last : (b N : ℕ) (E page : List ℕ) → 1 ≤ N → b ≤ length page → EmptyRight b E
+    → every (isAtMost (N - 1)) (take b page) ≡ true → blankAll page E ≡ true → zerosIn (take b page) ≤ length E + 1
+    → (t : Bool) → t ≡ nonzeroApart page b → Decides t (PagesRight b N E page)
+pages-last b N E page some long right low blank few t e =
+    decides-iff t
+    (λ a. test-pages b N E page some long right (record { low = low; blank = blank; few = few; apart = a }))
+    (λ p. pages-test b N E page some long p .apart)
+    (decides-test t _ e)
+
+-- ---- the whole
+
+pub sound-refused : (p : Pool) → (PartsRight p → ⊥) → false ≡ soundB p
+sound-refused p wrong = decides-same (Sound p) false (soundB p) (λ s. wrong (sound-parts p s)) (soundB-decides p)
+
+pub sound-last : (p : Pool) → length (p .empty) ≡ places → length (p .clean) ≡ places → length (p .dirty) ≡ places → length (p .page) ≡ places
+    → LimitsIn p → CountsIn p → LengthsIn p → TailsIn p → FramesIn p → (t : Bool) → Decides t (PagesIn p) → t ≡ soundB p
+sound-last p le lc ld lp l c n o f t d =
+    decides-same (Sound p) t (soundB p)
+    (decides-iff t
+    (λ g. parts-sound p le lc ld lp (record { limits = l; counts = c; lengths = n; tails = o; frames = f; pages = g }))
+    (λ s. sound-parts p s .pages)
+    d)
+    (soundB-decides p)

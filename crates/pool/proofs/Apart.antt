@@ -1,0 +1,123 @@
+-- Laws of pages that stand twice.
+--     hasBefore-hit, hasBefore-miss    one place more is looked through
+--     hasBefore-means, hasBefore-none, hasBefore-nowhere    what stands before a place, and what does not
+--     nonzeroApart-twice, nonzeroApart-zero, nonzeroApart-new    one page more is looked at
+--     nonzeroApart-means, nonzeroApart-of    pages that stand apart, place by place
+--     knows-more, knows-new    marks that know every earlier page: one page more, and a page that they do not know
+-- Assumes nothing.
+use mathlib.Core.Path.{_≡_, refl, sym, _∙_}
+use mathlib.Core.Bool.{true, false, not, _||_, false≢true, or-true, or-false, and-true, and-false, and-eq-true-iff}
+use mathlib.Core.Logic.{_≢_, dite, ⊎-elim}
+use Prim.Native.Nat.{ℕ, zero, suc, _+_, _%_, _<_}
+use native.Mathlib.Nat.{le-of-suc-le-suc, not-suc-le-zero, eq-or-lt-of-le}
+use native.Mathlib.Decide.{decLt, ℕ-discrete}
+use native.Mathlib.Numerals.{add-one}
+use native.Mathlib.Omega.{arith}
+use mathlib.Core.List.{List}
+use lib.ListN.{length, getD, set}
+use lib.Seq.{getD-set-same, getD-set-other}
+use lib.Dec.{eqb}
+use borrow.Author.Count.{below-more}
+use borrow.Author.Tests.{eq-eqb, ne-eqb, not-true}
+use Rattle.pool.specs.Parts.{hasBefore, nonzeroApart}
+
+-- a place before n where q stands
+pub record Before (page : List ℕ) (n q : ℕ) : Type 0 where
+  pub index : ℕ
+  pub inside : index < n
+  pub is : getD page index 0 ≡ q
+
+-- marks know the first n pages: each has a mark at its remainder by 1,024
+abbrev pub Knows : List ℕ → List ℕ → ℕ → Type 0
+Knows marks page n = (j : ℕ) → j < n → getD marks (getD page j 0 % 1024) 0 ≢ 0
+
+module _ (page : List ℕ) where
+  -- ---- a page stands before a place
+
+  pub hasBefore-hit : (n q : ℕ) → getD page n 0 ≡ q → hasBefore page (n + 1) q ≡ true
+  hasBefore-hit n q e = rw (add-one, eq-eqb _ _ e, or-true)
+
+  pub hasBefore-miss : (n q : ℕ) → getD page n 0 ≢ q → hasBefore page (n + 1) q ≡ hasBefore page n q
+  hasBefore-miss n q e = rw (add-one, ne-eqb _ _ e, or-false)
+
+  pub hasBefore-means : (n q : ℕ) → hasBefore page n q ≡ true → Before page n q
+  hasBefore-means zero q e = absurd (false≢true e)
+  hasBefore-means (suc n) q e =
+      dite (ℕ-discrete (getD page n 0) q)
+      (λ y. record { index = n; inside = omega arith; is = y })
+      (λ d.
+      let b = hasBefore-means n q (rw (ne-eqb _ _ d, or-false) at e) in
+      record { index = b .index; inside = omega (arith, b .inside); is = b .is })
+
+  pub hasBefore-nowhere : (n q : ℕ) → ((j : ℕ) → j < n → getD page j 0 ≢ q) → hasBefore page n q ≡ false
+  hasBefore-nowhere zero q p = refl
+  hasBefore-nowhere (suc n) q p = rw (ne-eqb _ _ (p n (omega arith)), or-false) (hasBefore-nowhere n q (λ j h. p j (omega arith)))
+
+  pub hasBefore-none : (n q : ℕ) → hasBefore page n q ≡ false → (j : ℕ) → j < n → getD page j 0 ≢ q
+  hasBefore-none zero q e j h y = not-suc-le-zero h
+  hasBefore-none (suc n) q e j h y =
+      dite (ℕ-discrete (getD page n 0) q)
+      (λ z. false≢true (sym (rw (eq-eqb _ _ z, or-true) at e)))
+      (λ d.
+      ⊎-elim
+      (λ (k : j ≡ n). d (rw k at y))
+      (λ (k : j < n). hasBefore-none n q (rw (ne-eqb _ _ d, or-false) at e) j k y)
+      (eq-or-lt-of-le (le-of-suc-le-suc h)))
+
+  -- ---- no page but 0 stands twice
+
+  pub nonzeroApart-twice : (i : ℕ) → getD page i 0 ≢ 0 → hasBefore page i (getD page i 0) ≡ true → nonzeroApart page (i + 1) ≡ false
+  nonzeroApart-twice i d e = rw (add-one, ne-eqb _ _ d, e, and-false)
+
+  pub nonzeroApart-zero : (i : ℕ) → getD page i 0 ≡ 0 → nonzeroApart page (i + 1) ≡ nonzeroApart page i
+  nonzeroApart-zero i z = rw (add-one, eq-eqb _ _ z, and-true)
+
+  pub nonzeroApart-new : (i : ℕ) → hasBefore page i (getD page i 0) ≡ false → nonzeroApart page (i + 1) ≡ nonzeroApart page i
+  nonzeroApart-new i e = rw (add-one, e, or-true, and-true)
+
+  -- of two equal pages the later one would have met the earlier one
+  nonzeroApart-earlier : (n : ℕ) → nonzeroApart page n ≡ true → (f g : ℕ) → f < g → g < n → getD page f 0 ≡ getD page g 0 → getD page g 0 ≢ 0 → ⊥
+  nonzeroApart-earlier zero a f g h k e d = not-suc-le-zero k
+  nonzeroApart-earlier (suc n) a f g h k e d =
+      let both = and-eq-true-iff (nonzeroApart page n) (eqb (getD page n 0) 0 || not (hasBefore page n (getD page n 0))) .0 a in
+      ⊎-elim
+      (λ (s : g ≡ n).
+      let z : getD page n 0 ≢ 0 = rw s at d in
+      hasBefore-none n (getD page n 0) (not-true _ (rw (ne-eqb _ _ z) at (both .1))) f (omega arith) (rw s at e))
+      (λ (l : g < n). nonzeroApart-earlier n (both .0) f g h l e d)
+      (eq-or-lt-of-le (le-of-suc-le-suc k))
+
+  pub nonzeroApart-means : (n : ℕ) → nonzeroApart page n ≡ true
+      → (f g : ℕ) → f < n → g < n → getD page f 0 ≡ getD page g 0 → getD page f 0 ≢ 0 → f ≡ g
+  nonzeroApart-means n a f g h k e d =
+      dite (decLt f g)
+      (λ l. absurd (nonzeroApart-earlier n a f g l k e (rw e at d)))
+      (λ m.
+      dite (decLt g f)
+      (λ l. absurd (nonzeroApart-earlier n a g f l h (sym e) d))
+      (λ o. omega arith))
+
+  pub nonzeroApart-of : (n : ℕ) → ((f g : ℕ) → f < n → g < n → getD page f 0 ≡ getD page g 0 → getD page f 0 ≢ 0 → f ≡ g)
+      → nonzeroApart page n ≡ true
+  nonzeroApart-of zero p = refl
+  nonzeroApart-of (suc n) p =
+      rw (nonzeroApart-of n (λ f g h k. p f g (omega arith) (omega arith)))
+      (dite (ℕ-discrete (getD page n 0) 0)
+      (λ z. rw (eq-eqb _ _ z))
+      (λ d. rw (hasBefore-nowhere n (getD page n 0) (λ j h e. omega (arith, p j n (omega arith) (omega arith) e (rw e d))), or-true)))
+
+  -- ---- marks by remainders
+
+  pub knows-more : (marks : List ℕ) (i : ℕ) → length marks ≡ 1024 → Knows marks page i → Knows (set marks (getD page i 0 % 1024) 1) page (i + 1)
+  knows-more marks i l k =
+      let r : ℕ = getD page i 0 % 1024 in
+      let here : getD (set marks r 1) r 0 ≡ 1 = getD-set-same marks r 1 0 (omega arith) in
+      below-more _ i
+      (λ j h z.
+      dite (ℕ-discrete (getD page j 0 % 1024) r)
+      (λ e. omega (arith, rw e at z))
+      (λ d. k j h (sym (getD-set-other marks r _ 1 0 d) ∙ z)))
+      (λ z. omega arith)
+
+  pub knows-new : (marks : List ℕ) (i : ℕ) → Knows marks page i → getD marks (getD page i 0 % 1024) 0 ≡ 0 → hasBefore page i (getD page i 0) ≡ false
+  knows-new marks i k z = hasBefore-nowhere i (getD page i 0) (λ j h e. k j h (rw e z))

@@ -1,0 +1,180 @@
+-- A test's answer and what it tells, and that `soundB` says whether a pool is sound.
+--     test-passed, test-refuted, decides-passed, decides-refuted    behind `if !test`
+--     decides-of, decides-test, decides-iff, decides-same    a test's answer
+--     limits-decides    the numbers
+--     heldB-exact, soundB-exact, soundB-decides    a list in its places, and the whole pool
+-- Assumes nothing.
+use mathlib.Core.Path.{_≡_, refl, sym, _∙_}
+use mathlib.Core.Bool.{Bool, true, false, not, _&&_, false≢true, or-assoc}
+use mathlib.Core.Logic.{_≢_, dite}
+use Prim.Native.Nat.{ℕ, _*_, _≤_, _<_}
+use native.Mathlib.Decide.{decLt}
+use native.Mathlib.Omega.{arith}
+use mathlib.Core.List.{List, _++_}
+use lib.ListN.{length, take, drop}
+use borrow.Author.Tests.{not-true, not-false}
+use Rattle.order.specs.Count.{count}
+use Rattle.order.specs.Places.{places, Holds}
+use Rattle.model.specs.Numbers.{Numbers, unit, mostServed, inLimits, Limits}
+use Rattle.model.specs.State.{State, pageIn, resident, standing}
+use Rattle.model.specs.Good.{Good, Blank}
+use Rattle.model.proofs.Limits.{limits-hold, hold-limits}
+use Rattle.model.proofs.Good.{standing-below}
+use Rattle.pool.specs.Parts.{Decides, every, isZero, CountsRight, FramesRight}
+use Rattle.pool.specs.Pool.{stateOf, Sound}
+use Rattle.pool.specs.Test.{framesB, apartB, countsB, goodB, blankB, heldB, soundB}
+use Rattle.pool.specs.declared.Pool.{Pool}
+use Rattle.pool.proofs.Counting.{count-three}
+use Rattle.pool.proofs.Exact.{Exact, exact-iff, exact-self, exact-and, exact-not, exact-eqb, exact-leb, exact-ltb, exact-where, exact-everyBelow, exact-every}
+use Rattle.pool.proofs.Parts.{frames-below, zeros-hold, holds-zeros, holds-length, held-whole, sound-held}
+
+-- ---- behind `if !test`
+
+pub test-passed : {s t : Bool} → s ≡ t → not s ≡ false → t ≡ true
+test-passed {s} e h = sym e ∙ not-false s h
+
+pub test-refuted : {s t : Bool} → s ≡ t → not s ≡ true → t ≢ true
+test-refuted {s} e h x = false≢true (sym (not-true s h) ∙ e ∙ x)
+
+module _ {A : Type 0} where
+  pub decides-passed : (t : Bool) → Decides t A → not t ≡ false → A
+  decides-passed true d e = d
+  decides-passed false d e = absurd (false≢true (sym e))
+
+  pub decides-refuted : (t : Bool) → Decides t A → not t ≡ true → A → ⊥
+  decides-refuted true d e x = false≢true e
+  decides-refuted false d e x = d x
+
+-- ---- a test's answer
+
+pub decides-of : {A : Type 0} (t : Bool) → Exact t A → Decides t A
+decides-of true a = a .holds refl
+decides-of false a = λ x. false≢true (a .test x)
+
+pub decides-test : (s t : Bool) → s ≡ t → Decides s (t ≡ true)
+decides-test s t e = rw e (decides-of t (exact-self t))
+
+pub decides-iff : {A B : Type 0} (t : Bool) → (A → B) → (B → A) → Decides t A → Decides t B
+decides-iff true f g d = f d
+decides-iff false f g d = λ b. d (g b)
+
+pub decides-same : (A : Type 0) (s t : Bool) → Decides s A → Decides t A → s ≡ t
+decides-same A true true d e = refl
+decides-same A true false d e = absurd (e d)
+decides-same A false true d e = absurd (d e)
+decides-same A false false d e = refl
+
+-- ---- the numbers
+
+limits-exact : (n : Numbers) → Exact (inLimits n) (Limits n)
+limits-exact n = record { holds = limits-hold n; test = hold-limits n }
+
+pub limits-decides : (n : Numbers) (t : Bool) → t ≡ inLimits n → Decides t (Limits n)
+limits-decides n t e = rw e (decides-of (inLimits n) (limits-exact n))
+
+-- ---- the parts of the test
+
+pub heldB-exact : (list : List ℕ) (n : ℕ) → Exact (heldB list n) (Holds list n (take n list))
+heldB-exact list n =
+    exact-iff
+    (λ x. zeros-hold list n (x .0) (x .1 .0) (x .1 .1))
+    (λ h. (holds-length h, (h .fits, holds-zeros h)))
+    (exact-and (exact-eqb (length list) places) (exact-and (exact-leb n places) (exact-self (every isZero (drop n list)))))
+
+module _ (s : State) where
+  framesB-exact : Exact (framesB s) (FramesRight (s .numbers .b) (s .lists .E) (s .lists .C) (s .lists .D))
+  framesB-exact =
+      exact-iff
+      (λ x.
+      record {
+        once = x .0;
+        others = λ f h. dite (decLt 0 (standing (s .lists) f)) (λ p. let l = x .1 f (omega (arith, all f)) in absurd (omega arith)) (λ n. omega arith);
+      })
+      (λ r. (r .once, λ f h. frames-below r f (omega (arith, all f))))
+      (exact-and
+      (exact-everyBelow (λ f. exact-eqb (standing (s .lists) f) 1) (s .numbers .b))
+      (exact-every (λ f. exact-ltb f (s .numbers .b)) (s .lists .E ++ (s .lists .C ++ s .lists .D))))
+    where
+      all : (f : ℕ) → count f (s .lists .E ++ (s .lists .C ++ s .lists .D)) ≡ standing (s .lists) f
+      all f = count-three f (s .lists .E) (s .lists .C) (s .lists .D)
+
+  countsB-exact : Exact (countsB s) (CountsRight (s .numbers .b) (s .target) (s .counts .served) (s .counts .nR) (s .counts .nW))
+  countsB-exact =
+      exact-iff
+      (λ x. record { target-high = x .0; served-high = x .1 .0; reads-high = x .1 .1 .0; writes-high = x .1 .1 .1 })
+      (λ r. (r .target-high, (r .served-high, (r .reads-high, r .writes-high))))
+      (exact-and (exact-leb (s .target) (s .numbers .b * unit))
+      (exact-and (exact-leb (s .counts .served) mostServed)
+      (exact-and (exact-leb (s .counts .nR) (s .counts .served)) (exact-leb (s .counts .nW) (s .numbers .b * s .counts .served)))))
+
+  apartB-exact : (f g : ℕ) → Exact (apartB s f g) (1 ≤ resident (s .lists) f → 1 ≤ resident (s .lists) g → pageIn s f ≢ pageIn s g)
+  apartB-exact f g =
+      rw or-assoc (exact-where (resident (s .lists) f) (exact-where (resident (s .lists) g) (exact-not (exact-eqb (pageIn s f) (pageIn s g)))))
+
+  goodB-exact : Exact (goodB s) (Good s)
+  goodB-exact =
+      exact-iff
+      (λ x.
+      let below : (f : ℕ) → 1 ≤ resident (s .lists) f → f < s .numbers .b = λ f h. frames-below (x .1 .0) f (omega arith) in
+      record {
+        limits = x .0;
+        once = x .1 .0 .once;
+        others = x .1 .0 .others;
+        paged = x .1 .1 .0 .0;
+        inside = λ f h. x .1 .1 .0 .1 .0 f (below f h) h;
+        apart = λ f g h k e.
+            dite (decLt g f) (λ l. absurd (x .1 .1 .0 .1 .1 f (below f h) g l h k e))
+            (λ n. dite (decLt f g) (λ l. absurd (x .1 .1 .0 .1 .1 g (below g k) f l k h (sym e))) (λ m. omega arith));
+        target-high = x .1 .1 .1 .target-high;
+        served-high = x .1 .1 .1 .served-high;
+        reads-high = x .1 .1 .1 .reads-high;
+        writes-high = x .1 .1 .1 .writes-high;
+      })
+      (λ g. (
+        g .limits,
+        (
+          record { once = g .once; others = g .others },
+          (
+            (g .paged, (λ f l h. g .inside f h, λ f l h n i k e. let m = g .apart f h i k e in omega arith)),
+            record { target-high = g .target-high; served-high = g .served-high; reads-high = g .reads-high; writes-high = g .writes-high },
+          ),
+        ),
+      ))
+      (exact-and (limits-exact (s .numbers))
+      (exact-and framesB-exact
+      (exact-and
+      (exact-and (exact-eqb (length (s .page)) (s .numbers .b))
+      (exact-and
+      (exact-everyBelow (λ f. exact-where (resident (s .lists) f) (exact-ltb (pageIn s f) (s .numbers .N))) (s .numbers .b))
+      (exact-everyBelow (λ f. exact-everyBelow (apartB-exact f) f) (s .numbers .b))))
+      countsB-exact)))
+
+  -- a frame that is empty stands in a list, and so is one of those that are tested
+  blankB-exact : Exact (goodB s && blankB s) (Good s × Blank s)
+  blankB-exact =
+      exact-iff
+      (λ x. (x .0, λ f h. x .1 f (standing-below s (x .0) f (omega arith)) h))
+      (λ x. (x .0, λ f l h. x .1 f h))
+      (exact-and goodB-exact (exact-everyBelow (λ f. exact-where (count f (s .lists .E)) (exact-eqb (pageIn s f) 0)) (s .numbers .b)))
+
+-- ---- the whole
+
+pub soundB-exact : (p : Pool) → Exact (soundB p) (Sound p)
+unfolding soundB
+soundB-exact p =
+    exact-iff
+    (λ x.
+    record {
+      good = x .1 .0;
+      blank = x .1 .1;
+      whole = held-whole p (record { empty = x .0 .0; clean = x .0 .1 .0; dirty = x .0 .1 .1 .0; page = x .0 .1 .1 .1 });
+    })
+    (λ s. let h = sound-held p s in ((h .empty, (h .clean, (h .dirty, h .page))), (s .good, s .blank)))
+    (exact-and
+    (exact-and (heldB-exact (p .empty) (p .«empty_len»))
+    (exact-and (heldB-exact (p .clean) (p .«clean_len»))
+    (exact-and (heldB-exact (p .dirty) (p .«dirty_len»)) (heldB-exact (p .page) (p .frames)))))
+    (blankB-exact (stateOf p)))
+
+pub soundB-decides : (p : Pool) → Decides (soundB p) (Sound p)
+soundB-decides p = decides-of (soundB p) (soundB-exact p)

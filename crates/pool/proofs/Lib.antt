@@ -1,0 +1,11 @@
+pub mod Every
+pub mod Marks
+pub mod Apart
+pub mod Counting
+pub mod Exact
+pub mod Parts
+pub mod Decides
+pub mod Frames
+pub mod Pages
+pub mod Answers
+pub mod Form

@@ -1,0 +1,83 @@
+-- `pool::all_blank` meets its contract. The loop's invariant: the frames from place `i` of the list on all have page 0 just if all n have it, since
+-- those passed have it. The measure is how many frames are left. Assumes nothing.
+use mathlib.Core.Path.{_≡_, refl}
+use mathlib.Core.Bool.{Bool, true}
+use Prim.Native.Nat.{ℕ, _-_, _≤_}
+use native.Mathlib.Omega.{arith}
+use borrow.Author.Needs.{needs}
+use borrow.Author.Tests.{eq-eqb, ne-eqb}
+use mathlib.Core.List.{List}
+use lib.ListN.{getD, take, drop}
+use lib.Dec.{eqb}
+use Rattle.pool.specs.Parts.{blankAll}
+use Rattle.pool.proofs.Every.{drop-take-next, drop-take-end, every-spoilt, every-kept, every-end}
+use Rattle.pool.proofs.all_blank.Statement.{statement}
+use Rattle.pool.proofs.all_blank.Tie as tie
+
+-- the test of one frame
+abbrev blank : List ℕ → ℕ → Bool
+blank page f = eqb (getD page f 0) 0
+
+abbrev Inv-loop : tie.InvT-loop
+Inv-loop n list page i₀ i = (i ≤ n) × (blankAll page (drop i (take n list)) ≡ blankAll page (take n list))
+
+abbrev μ-loop : tie.MeasureT-loop
+μ-loop n list page i₀ i = n - i
+
+loop-holds : tie.Need-loop-holds Inv-loop μ-loop
+loop-holds c = (search needs, refl)
+
+array-read-f : tie.Need-array-read-f Inv-loop μ-loop
+array-read-f c = search needs
+
+cast-f : tie.Need-cast-f Inv-loop μ-loop
+cast-f c = search needs
+
+mul-if1 : tie.Need-mul-if1 Inv-loop μ-loop
+mul-if1 c = omega (arith, c .before .before .pre .1 (c .before .loop .i) (search needs))
+
+array-read-if1 : tie.Need-array-read-if1 Inv-loop μ-loop
+array-read-if1 c = c .before .before .pre .1 (c .before .loop .i) (search needs)
+
+returns : tie.Need-returns Inv-loop μ-loop
+returns c =
+    let a = c .before .before .before .args in
+    let l = c .before .before .loop in
+    every-spoilt (blank (a .t3)) true _ (drop-take-next (a .t1) (a .n) (l .i) (search needs) (search needs)) (ne-eqb _ 0 (c .if1 .taken)) (l .inv .1)
+
+add-i : tie.Need-add-i Inv-loop μ-loop
+add-i c = search needs
+
+loop-less : tie.Need-loop-less Inv-loop μ-loop
+loop-less c = search needs
+
+loop-again : tie.Need-loop-again Inv-loop μ-loop
+loop-again c =
+    let a = c .before .before .before .args in
+    let l = c .before .before .loop in (
+      search needs,
+      every-kept (blank (a .t3)) true _ (drop-take-next (a .t1) (a .n) (l .i) (search needs) (search needs)) (eq-eqb _ 0 (c .if1 .left)) (l .inv .1),
+    )
+
+returns-2 : tie.Need-returns-2 Inv-loop μ-loop
+returns-2 c =
+    let a = c .before .before .args in
+    let l = c .before .loop in
+    every-end (blank (a .t3)) true _ (drop-take-end (a .t1) (a .n) (l .i) (search needs)) (l .inv .1)
+
+pub all-blank-spec : {M : Type 1} → statement M
+all-blank-spec =
+    tie.close
+    (tie.spec
+    Inv-loop
+    μ-loop
+    loop-holds
+    array-read-f
+    cast-f
+    mul-if1
+    array-read-if1
+    returns
+    add-i
+    loop-less
+    loop-again
+    returns-2)

@@ -1,0 +1,43 @@
+-- `pool::frames_right` meets its contract. The three calls leave the marks of all the numbers, one list after the other; as many numbers as frames
+-- mark every frame only where each frame stands once. Assumes nothing.
+use native.Mathlib.Omega.{arith}
+use borrow.Author.Needs.{needs}
+use lib.ListN.{take}
+use lib.Seq.{length-take-le}
+use Rattle.pool.proofs.Answers.{marks-length, frames-decides}
+use Rattle.pool.proofs.frames_right.Statement.{statement}
+use Rattle.pool.proofs.frames_right.Tie as tie
+
+mark-requires : tie.Need-mark-requires
+mark-requires c κs = search needs
+
+mark-requires-2 : tie.Need-mark-requires-2
+mark-requires-2 c κs = search needs
+
+mark-requires-3 : tie.Need-mark-requires-3
+mark-requires-3 c κs = search needs
+
+all-marked-requires : tie.Need-all-marked-requires
+all-marked-requires c κs =
+    let a = c .before .before .before .before .before .before .before .args in (
+      search needs,
+      marks-length (take (a .en) (a .e)) (take (a .cn) (a .c)) (take (a .dn) (a .d)) _ _ _ (c .before .before .before .before .before .mark .ensures) (c .before .before .before .mark2 .ensures) (c .before .mark3 .ensures),
+    )
+
+returns : tie.Need-returns
+returns c =
+    let a = c .before .before .before .before .before .before .before .before .args in
+    frames-decides (take (a .en) (a .e)) (take (a .cn) (a .c)) (take (a .dn) (a .d)) _ _ _
+    (c .before .before .before .before .before .before .mark .ensures) (c .before .before .before .before .mark2 .ensures) (c .before .before .mark3 .ensures)
+    (a .frames) (search needs)
+    (omega (
+      arith,
+      length-take-le (a .en) (a .e) (search needs),
+      length-take-le (a .cn) (a .c) (search needs),
+      length-take-le (a .dn) (a .d) (search needs),
+    ))
+    _ (c .all-marked .ensures)
+
+pub frames-right-spec : {M : Type 1} → statement M
+frames-right-spec =
+    tie.close (tie.spec mark-requires mark-requires-2 mark-requires-3 all-marked-requires returns)

@@ -1,0 +1,87 @@
+-- `pool::nonzero_apart` meets its contract. The loop's invariant: the flag says whether the pages before place `i` stand apart, and each of them has
+-- a mark at its remainder. So a page that meets no mark stands nowhere before `i`. The measure is how many pages are left. Assumes nothing.
+use mathlib.Core.Path.{_≡_, refl, sym, _∙_}
+use mathlib.Core.Logic.{⊎-elim}
+use Prim.Native.Nat.{_-_, _≤_}
+use native.Mathlib.Omega.{arith}
+use borrow.Author.Count.{below-none}
+use borrow.Author.Needs.{needs}
+use lib.ListN.{length}
+use Rattle.pool.specs.Parts.{nonzeroApart}
+use Rattle.pool.proofs.Apart.{Knows, knows-more, knows-new, nonzeroApart-twice, nonzeroApart-zero, nonzeroApart-new}
+use Rattle.pool.proofs.nonzero_apart.Statement.{statement}
+use Rattle.pool.proofs.nonzero_apart.Tie as tie
+
+abbrev Inv-loop : tie.InvT-loop
+Inv-loop frames page marks₀ ok₀ i₀ marks ok i = (i ≤ frames) × (length marks ≡ 1024) × (ok ≡ nonzeroApart page i) × Knows marks page i
+
+abbrev μ-loop : tie.MeasureT-loop
+μ-loop frames page marks₀ ok₀ i₀ marks ok i = frames - i
+
+loop-holds : tie.Need-loop-holds Inv-loop μ-loop
+loop-holds c = (search needs, refl, refl, below-none _)
+
+mul-q : tie.Need-mul-q Inv-loop μ-loop
+mul-q c = search needs
+
+array-read-q : tie.Need-array-read-q Inv-loop μ-loop
+array-read-q c = search needs
+
+cast-k : tie.Need-cast-k Inv-loop μ-loop
+cast-k c = search needs
+
+array-read-if1 : tie.Need-array-read-if1 Inv-loop μ-loop
+array-read-if1 c = search needs
+
+stands-before-requires : tie.Need-stands-before-requires Inv-loop μ-loop
+stands-before-requires c κs = search needs
+
+array-write-marks : tie.Need-array-write-marks Inv-loop μ-loop
+array-write-marks c = search needs
+
+add-i : tie.Need-add-i Inv-loop μ-loop
+add-i c = search needs
+
+loop-less : tie.Need-loop-less Inv-loop μ-loop
+loop-less c = search needs
+
+loop-again : tie.Need-loop-again Inv-loop μ-loop
+loop-again c =
+    let page = c .before .before .before .args .t1 in
+    let l = c .before .before .loop in (
+      search needs,
+      search needs,
+      ⊎-elim
+          (λ w. w .4 ∙ sym (nonzeroApart-twice page (l .i) (w .1 .taken) (sym (w .2 .ensures) ∙ w .3 .taken)))
+          (⊎-elim
+          (λ w. w .4 ∙ l .inv .2 ∙ sym (nonzeroApart-new page (l .i) (sym (w .2 .ensures) ∙ w .3 .left)))
+          (⊎-elim
+          (λ w. w .2 ∙ l .inv .2 ∙ sym (nonzeroApart-zero page (l .i) (w .1 .left)))
+          (λ w. w .1 ∙ l .inv .2 ∙ sym (nonzeroApart-new page (l .i) (knows-new page (l .marks) (l .i) (l .inv .3) (w .0 .left))))))
+          (c .if1 .came),
+      knows-more page (l .marks) (l .i) (l .inv .1) (l .inv .3),
+    )
+
+returns : tie.Need-returns Inv-loop μ-loop
+returns c =
+    let l = c .before .loop in
+    let e : l .i ≡ c .before .before .args .frames = omega arith in
+    rw e at (l .inv .2)
+
+pub nonzero-apart-spec : {M : Type 1} → statement M
+nonzero-apart-spec =
+    tie.close
+    (tie.spec
+    Inv-loop
+    μ-loop
+    loop-holds
+    mul-q
+    array-read-q
+    cast-k
+    array-read-if1
+    stands-before-requires
+    array-write-marks
+    add-i
+    loop-less
+    loop-again
+    returns)

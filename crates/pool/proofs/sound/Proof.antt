@@ -1,0 +1,120 @@
+-- `pool::sound` meets its contract. A sound pool has every part right, so a part that is not right says no; where all are right, the pool is sound,
+-- and `soundB` says the same. Assumes nothing.
+use mathlib.Core.Path.{_≡_}
+use native.Mathlib.Omega.{arith}
+use borrow.Author.Needs.{needs}
+use lib.ListN.{length}
+use Rattle.order.specs.Places.{places}
+use Rattle.pool.proofs.Parts.{frames-empty, LimitsIn, CountsIn, LengthsIn, TailsIn, FramesIn}
+use Rattle.pool.proofs.Decides.{decides-passed, decides-refuted, limits-decides}
+use Rattle.pool.proofs.Answers.{sound-refused, sound-last}
+use Rattle.pool.proofs.sound.Statement.{statement}
+use Rattle.pool.proofs.sound.Tie as tie
+
+-- ---- what is known from the start, and behind each test
+
+lengths-start : (c : tie.Start)
+    → (length (c .args .pool .empty) ≡ places)
+    × (length (c .args .pool .clean) ≡ places)
+    × (length (c .args .pool .dirty) ≡ places)
+    × (length (c .args .pool .page) ≡ places)
+lengths-start c = (search needs, search needs, search needs, search needs)
+
+limits : (c : tie.Else1) → LimitsIn (c .before .before .args .pool)
+limits c =
+    let r = c .before .in-limits in
+    decides-passed (r .result) (limits-decides _ (r .result) (r .ensures)) (c .if1 .left)
+
+counts : (c : tie.Else2) → CountsIn (c .before .before .before .before .args .pool)
+counts c = let r = c .before .counts-right in decides-passed (r .result) (r .ensures) (c .if2 .left)
+
+lengths : (c : tie.Else3) → LengthsIn (c .before .before .before .before .before .before .args .pool)
+lengths c = let r = c .before .lengths-right in decides-passed (r .result) (r .ensures) (c .if3 .left)
+
+tails : (c : tie.Else4) → TailsIn (c .before .before .before .before .before .before .before .before .before .before .before .before .args .pool)
+tails c = let r = c .before .tails-right in decides-passed (r .result) (r .ensures) (c .if4 .left)
+
+frames : (c : tie.Else5) → FramesIn (c .before .before .before .before .before .before .before .before .before .before .before .before .before .before .args .pool)
+frames c = let r = c .before .frames-right in decides-passed (r .result) (r .ensures) (c .if5 .left)
+
+-- ---- the needs
+
+in-limits-requires : tie.Need-in-limits-requires
+in-limits-requires c κs = search needs
+
+returns : tie.Need-returns
+returns c =
+    let r = c .before .in-limits in
+    sound-refused _ (λ p. decides-refuted (r .result) (limits-decides _ (r .result) (r .ensures)) (c .if1 .taken) (p .limits))
+
+counts-right-requires : tie.Need-counts-right-requires
+counts-right-requires c κs = limits c .b-high
+
+returns-2 : tie.Need-returns-2
+returns-2 c =
+    let r = c .before .counts-right in
+    sound-refused _ (λ p. decides-refuted (r .result) (r .ensures) (c .if2 .taken) (p .counts))
+
+lengths-right-requires : tie.Need-lengths-right-requires
+lengths-right-requires c κs = search needs
+
+returns-3 : tie.Need-returns-3
+returns-3 c =
+    let r = c .before .lengths-right in
+    sound-refused _ (λ p. decides-refuted (r .result) (r .ensures) (c .if3 .taken) (p .lengths))
+
+tails-right-requires : tie.Need-tails-right-requires
+tails-right-requires c κs = search needs
+
+returns-4 : tie.Need-returns-4
+returns-4 c =
+    let r = c .before .tails-right in
+    sound-refused _ (λ p. decides-refuted (r .result) (r .ensures) (c .if4 .taken) (p .tails))
+
+frames-right-requires : tie.Need-frames-right-requires
+frames-right-requires c κs =
+    let behind-lengths = c .before .before .before .before .before .before in
+    let behind-limits = behind-lengths .before .before .before .before in
+    (limits behind-limits .b-high, lengths behind-lengths)
+
+returns-5 : tie.Need-returns-5
+returns-5 c =
+    let r = c .before .frames-right in
+    sound-refused _ (λ p. decides-refuted (r .result) (r .ensures) (c .if5 .taken) (p .frames))
+
+pages-right-requires : tie.Need-pages-right-requires
+pages-right-requires c κs =
+    let behind-lengths = c .before .before .before .before .before .before .before .before in
+    let behind-limits = behind-lengths .before .before .before .before in
+    let l = limits behind-limits in
+    ((l .b-high, l .N-low, l .N-high, omega (arith, lengths behind-lengths)), frames-empty (frames c))
+
+returns-6 : tie.Need-returns-6
+returns-6 c =
+    let behind-frames = c .before in
+    let behind-tails = behind-frames .before .before in
+    let behind-lengths = behind-tails .before .before .before .before .before .before in
+    let behind-counts = behind-lengths .before .before in
+    let behind-limits = behind-counts .before .before in
+    let n = lengths-start (behind-limits .before .before) in
+    sound-last _ (n .0) (n .1) (n .2) (n .3)
+    (limits behind-limits) (counts behind-counts) (lengths behind-lengths) (tails behind-tails) (frames behind-frames)
+    _
+    (c .pages-right .ensures)
+
+pub sound-spec : {M : Type 1} → statement M
+sound-spec =
+    tie.close
+    (tie.spec
+    in-limits-requires
+    returns
+    counts-right-requires
+    returns-2
+    lengths-right-requires
+    returns-3
+    tails-right-requires
+    returns-4
+    frames-right-requires
+    returns-5
+    pages-right-requires
+    returns-6)

@@ -1,0 +1,58 @@
+-- `pool::zeros_in` meets its contract. The loop's invariant: the zeros counted so far and those from place `i` on are all the zeros, and at most `i`
+-- are counted, so that the count does not wrap. The measure is how many pages are left. Assumes nothing.
+use mathlib.Core.Path.{_≡_}
+use mathlib.Core.Logic.{⊎-elim}
+use Prim.Native.Nat.{_+_, _-_, _≤_}
+use native.Mathlib.Omega.{arith}
+use borrow.Author.Needs.{needs}
+use lib.ListN.{take, drop}
+use Rattle.pool.specs.Parts.{zerosIn}
+use Rattle.pool.proofs.Every.{drop-take-next, drop-take-end, zerosIn-more, zerosIn-same}
+use Rattle.pool.proofs.zeros_in.Statement.{statement}
+use Rattle.pool.proofs.zeros_in.Tie as tie
+
+abbrev Inv-loop : tie.InvT-loop
+Inv-loop frames page n₀ i₀ n i = (i ≤ frames) × (n ≤ i) × (n + zerosIn (drop i (take frames page)) ≡ zerosIn (take frames page))
+
+abbrev μ-loop : tie.MeasureT-loop
+μ-loop frames page n₀ i₀ n i = frames - i
+
+loop-holds : tie.Need-loop-holds Inv-loop μ-loop
+loop-holds c = (search needs, search needs, omega arith)
+
+mul-if1 : tie.Need-mul-if1 Inv-loop μ-loop
+mul-if1 c = search needs
+
+array-read-if1 : tie.Need-array-read-if1 Inv-loop μ-loop
+array-read-if1 c = search needs
+
+add-n : tie.Need-add-n Inv-loop μ-loop
+add-n c = search needs
+
+add-i : tie.Need-add-i Inv-loop μ-loop
+add-i c = search needs
+
+loop-less : tie.Need-loop-less Inv-loop μ-loop
+loop-less c = search needs
+
+loop-again : tie.Need-loop-again Inv-loop μ-loop
+loop-again c =
+    let a = c .before .before .before .args in
+    let l = c .before .before .loop in
+    let e = drop-take-next (a .t1) (a .frames) (l .i) (search needs) (search needs) in (
+      search needs,
+      ⊎-elim (λ w. omega arith) (λ w. omega arith) (c .if1 .came),
+      ⊎-elim
+          (λ w. rw (w .1) (zerosIn-more (l .n) _ e (l .inv .2) (w .0 .taken)))
+          (λ w. rw (w .1) (zerosIn-same (l .n) _ e (l .inv .2) (w .0 .left)))
+          (c .if1 .came),
+    )
+
+returns : tie.Need-returns Inv-loop μ-loop
+returns c =
+    let a = c .before .before .args in
+    let l = c .before .loop in
+    omega (arith, rw (drop-take-end (a .t1) (a .frames) (l .i) (search needs)) at (l .inv .2))
+
+pub zeros-in-spec : {M : Type 1} → statement M
+zeros-in-spec = tie.close (tie.spec Inv-loop μ-loop loop-holds mul-if1 array-read-if1 add-n add-i loop-less loop-again returns)

@@ -1,0 +1,60 @@
+-- Soundness as a test that computes, line by line beside `Good`, `Blank` and `Sound`; `soundB-decides` says that it is true of the sound pools and no other.
+-- Assumes nothing.
+use Prim.Native.Nat.{ℕ, zero, suc, _+_, _*_}
+use mathlib.Core.Bool.{Bool, true, false, not, _&&_, _||_}
+use mathlib.Core.List.{List, [], _∷_, _++_}
+use lib.Dec.{eqb, leb, ltb}
+use lib.ListN.{length, drop}
+use Rattle.order.specs.Places.{places}
+use Rattle.order.specs.Count.{count}
+use Rattle.model.specs.Numbers.{inLimits, unit, mostServed}
+use Rattle.model.specs.State.{State, pageIn, resident, standing}
+use Rattle.pool.specs.Parts.{every, isZero}
+use Rattle.pool.specs.Pool.{stateOf}
+use Rattle.pool.specs.declared.Pool.{Pool}
+
+-- every number below n passes
+abbrev pub everyBelow : ℕ → (ℕ → Bool) → Bool
+everyBelow zero t = true
+everyBelow (suc n) t = t n && everyBelow n t
+
+-- `once` and `others`
+abbrev pub framesB : State → Bool
+framesB s =
+    everyBelow (s .numbers .b) (λ f. eqb (standing (s .lists) f) 1)
+    && every (λ f. ltb f (s .numbers .b)) (s .lists .E ++ (s .lists .C ++ s .lists .D))
+
+-- `paged`, `inside` and `apart`
+abbrev pub apartB : State → ℕ → ℕ → Bool
+apartB s f g = (eqb (resident (s .lists) f) 0 || eqb (resident (s .lists) g) 0) || not (eqb (pageIn s f) (pageIn s g))
+
+abbrev pub pagesB : State → Bool
+pagesB s =
+    eqb (length (s .page)) (s .numbers .b)
+    && (everyBelow (s .numbers .b) (λ f. eqb (resident (s .lists) f) 0 || ltb (pageIn s f) (s .numbers .N))
+    && everyBelow (s .numbers .b) (λ f. everyBelow f (λ g. apartB s f g)))
+
+-- `target-high`, `served-high`, `reads-high` and `writes-high`
+abbrev pub countsB : State → Bool
+countsB s =
+    leb (s .target) (s .numbers .b * unit)
+    && (leb (s .counts .served) mostServed
+    && (leb (s .counts .nR) (s .counts .served) && leb (s .counts .nW) (s .numbers .b * s .counts .served)))
+
+abbrev pub goodB : State → Bool
+goodB s = inLimits (s .numbers) && (framesB s && (pagesB s && countsB s))
+
+abbrev pub blankB : State → Bool
+blankB s = everyBelow (s .numbers .b) (λ f. eqb (count f (s .lists .E)) 0 || eqb (pageIn s f) 0)
+
+-- the first n of 64 places are a list's, and the others hold 0
+abbrev pub heldB : List ℕ → ℕ → Bool
+heldB list n = eqb (length list) places && (leb n places && every isZero (drop n list))
+
+abbrev pub wholeB : Pool → Bool
+wholeB p =
+    heldB (p .empty) (p .«empty_len»)
+    && (heldB (p .clean) (p .«clean_len») && (heldB (p .dirty) (p .«dirty_len») && heldB (p .page) (p .frames)))
+
+unfoldable pub soundB : Pool → Bool
+soundB p = wholeB p && (goodB (stateOf p) && blankB (stateOf p))

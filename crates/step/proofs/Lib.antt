@@ -1,0 +1,4 @@
+pub mod Bounds
+pub mod Hits
+pub mod Faults
+pub mod Requests

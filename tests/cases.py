@@ -1,0 +1,135 @@
+#!/usr/bin/env python3
+"""Writes the trace cases under tests/traces: NAME.trace and, from the plain model alone, NAME.out. Seeded, so it always writes the same.
+
+  cases.py            write them all
+  cases.py --check    say whether the files there are those it would write
+"""
+import os
+import random
+import struct
+import sys
+
+import model
+
+HERE = os.path.join(os.path.dirname(os.path.abspath(__file__)), 'traces')
+LISTING = [('R', 0, 0), ('W', 7, 1), ('R', 0, 0), ('R', 0, 2), ('W', 9, 1), ('W', 5, 2), ('R', 0, 3), ('F', 0, 0), ('R', 0, 1)]
+
+
+def trace(rs, b=2, P=16, N=8, r=1, w=3, notes=b''):
+    return model.encode(notes, rs, b, P, N, r, w)
+
+
+def tail(distance, records, b=2, P=16, N=8, r=1, w=3):
+    return struct.pack('<IIHHIHH', distance, records, b, P, N, r, w)
+
+
+def valid(rng):
+    """A random trace that the program serves: b, P, N, costs, a skew, writes, flushes and notes."""
+    P = rng.choice([16, 17, 31, 64, 100, 512, 4096])
+    b = rng.randint(1, min(64, 8192 // P))
+    N = rng.randint(1, min(65536, 32768 // P))
+    r, w = rng.choice([(1, 4), (0, 0), (1, 1), (1000, 1), (1, 1000), (rng.randint(1, 1000), rng.randint(1, 1000))])
+    notes = bytes(rng.randrange(256) for _ in range(rng.choice([0, 0, 1, 4, 20, 77])))
+    hot = [rng.randrange(N) for _ in range(max(1, min(N, b + rng.randint(0, 3))))]
+    writes, flushes, skew = rng.choice([0.05, 0.3, 0.7]), rng.choice([0, 0.02, 0.1]), rng.choice([0.5, 0.8, 0.95])
+    rs = []
+    for _ in range(rng.choice([3, 20, 100, 400])):
+        if rng.random() < flushes:
+            rs.append(('F', 0, 0))
+            continue
+        page = rng.choice(hot) if rng.random() < skew else rng.randrange(N)
+        rs.append(('W', rng.randrange(256), page) if rng.random() < writes else ('R', 0, page))
+    return trace(rs, b, P, N, r, w, notes)
+
+
+def edges():
+    """Both sides of each boundary, and refusals two at a time."""
+    yield 'listing', trace(LISTING)
+    yield 'listing-noted', trace(LISTING, notes=b'hall calls of a week\n')
+    yield 'notes-like-records', trace(LISTING, notes=b'R\0\0\0W\7\1\0F\0\0\0')
+    yield 'notes-like-a-trace', trace(LISTING, notes=trace(LISTING))
+    yield 'climb', trace([('R', 0, 0), ('W', 7, 1)] + [('R', 0, 0)] * 3 + [('R', 0, 2), ('R', 0, 3)], r=3, w=1)
+    yield 'one-frame', trace([('W', 1, 0), ('R', 0, 1)], b=1)
+    yield 'flush-of-nothing', trace([('F', 0, 0), ('R', 0, 0), ('F', 0, 0)])
+    yield 'no-records', trace([])
+    yield 'usual-drive', trace(LISTING, r=0, w=0)
+    for n in (0, 1, 19):
+        yield 'short-%d' % n, bytes(n)
+    yield 'zeros-20', bytes(20)
+    # 7: distance and records, whole numbers without wrapping
+    yield 'distance-21', tail(21, 0)
+    yield 'distance-24-one-record-short', tail(24, 1)
+    yield 'distance-24-of-23', b'R\0\0' + tail(24, 1)
+    yield 'distance-24-of-24', b'R\0\0\0' + tail(24, 1)
+    yield 'distance-wraps', tail(20, 1 << 30)
+    yield 'distance-wraps-16', tail(16, 0xFFFFFFFF)
+    yield 'distance-most', tail(0xFFFFFFFF, 0xFFFFFFFF)
+    # 1: each number on both sides
+    for name, low, high in (('b', 1, 64), ('P', 16, 4096), ('N', 1, 65536), ('r', 1, 1000), ('w', 1, 1000)):
+        for v in (low - 1, low, high, high + 1):
+            fields = dict(b=1, P=16, N=1, r=1, w=1)
+            fields[name] = v
+            yield 'limit-%s-%d' % (name, v), trace([], **fields)
+    yield 'costs-0-5', trace([], r=0, w=5)
+    yield 'costs-5-0', trace([], r=5, w=0)
+    yield 'numbers-most', tail(20, 0, 65535, 65535, 0xFFFFFFFF, 65535, 65535)
+    # 8: letters, values, pages
+    for k, bad in enumerate([(b'X', 0, 0), (b'r', 0, 0), (b'R', 1, 0), (b'R', 0, 8), (b'R', 0, 65535), (b'W', 0, 8), (b'F', 1, 0), (b'F', 0, 1), (b'\0', 0, 0)]):
+        body = struct.pack('<cBH', *bad)
+        yield 'record-bad-%d' % k, body + tail(24, 1)
+        yield 'record-bad-%d-third' % k, b'R\0\7\0' + b'W\xff\7\0' + body + body + tail(36, 4)
+    yield 'record-last-page', trace([('R', 0, 7), ('W', 255, 7)])
+    # 9 and 10
+    filler = bytes(16384 - 56)
+    yield 'file-16384', filler + trace(LISTING)
+    yield 'file-16385', b'\0' + filler + trace(LISTING)
+    yield 'file-most-records', trace([('R', 0, k % 8) for k in range(4091)])
+    yield 'frames-8192', trace(LISTING, b=2, P=4096, N=8)
+    yield 'frames-8256', trace(LISTING, b=3, P=2752, N=8)
+    yield 'store-32768', trace(LISTING, b=2, P=16, N=2048)
+    yield 'store-32784', trace(LISTING, b=2, P=16, N=2049)
+    # two refusals at once: the earlier in 9, 7, 1, 8, 10 is given
+    bad = struct.pack('<cBH', b'X', 0, 0)
+    long = bytes(16385)
+    yield 'two-9-7', long
+    yield 'two-9-1', long + tail(20, 0, b=65)
+    yield 'two-9-8', long + bad + tail(24, 1)
+    yield 'two-9-10', long + tail(20, 0, b=64, P=4096)
+    yield 'two-7-1', tail(21, 0, b=65)
+    yield 'two-7-8', bad + tail(25, 1)
+    yield 'two-7-10', tail(21, 0, b=64, P=4096)
+    yield 'two-1-8', bad + tail(24, 1, b=65)
+    yield 'two-1-10', tail(20, 0, b=65, P=4096)
+    yield 'two-8-10', bad + tail(24, 1, b=64, P=4096)
+
+
+def cases():
+    yield from edges()
+    rng = random.Random(20101122)
+    for k in range(150):
+        yield 'random-%03d' % k, valid(rng)
+
+
+def main(words):
+    files = {}
+    for name, data in cases():
+        files[name + '.trace'] = data
+        files[name + '.out'] = model.listing(data).encode()
+    if words == ['--check']:
+        there = {f: open(os.path.join(HERE, f), 'rb').read() for f in os.listdir(HERE)}
+        if there != files:
+            sys.exit('tests/traces is not what cases.py writes')
+        return
+    if words:
+        sys.exit(__doc__)
+    os.makedirs(HERE, exist_ok=True)
+    for f in os.listdir(HERE):
+        os.remove(os.path.join(HERE, f))
+    for f, data in files.items():
+        with open(os.path.join(HERE, f), 'wb') as out:
+            out.write(data)
+    print(len(files) // 2, 'cases')
+
+
+if __name__ == '__main__':
+    main(sys.argv[1:])

@@ -1,0 +1,223 @@
+#!/usr/bin/env python3
+"""A plain model of the page buffer and of trace files, written from the scope alone.
+
+It shares nothing with the proved code: lists are Python lists, pages are looked for one after the other, and the
+expected outputs under tests/ come from here, never from the program that is tested. Standard library only.
+
+  model.py run < TRACE        the listing of one trace
+"""
+import struct
+import sys
+
+UNIT = 65536
+MOST_SERVED = 1000000000
+
+
+class Refused(Exception):
+    """A refusal by its number; 8 also names a record."""
+
+    def __init__(self, number, record=None):
+        super().__init__(number)
+        self.number, self.record = number, record
+
+
+def allowed(b, P, N, r, w):
+    """Refusal 1's limits; both costs 0 mean the usual drive."""
+    if r == 0 and w == 0:
+        r, w = 1, 4
+    return 1 <= b <= 64 and 16 <= P <= 4096 and 1 <= N <= 65536 and 1 <= r <= 1000 and 1 <= w <= 1000
+
+
+class Pool:
+    """The pool by the scope's words: E, C, D hold frames, the most recently used first."""
+
+    def __init__(self, b, P, N, r, w):
+        if not allowed(b, P, N, r, w):
+            raise Refused(1)
+        if r == 0 and w == 0:
+            r, w = 1, 4
+        self.b, self.P, self.N, self.r, self.w = b, P, N, r, w
+        self.E, self.C, self.D = list(range(b - 1, -1, -1)), [], []
+        self.page = [0] * b
+        self.target = self.served = self.nR = self.nW = 0
+
+    # ---- soundness
+
+    def sound(self):
+        if not (1 <= self.b <= 64 and 16 <= self.P <= 4096 and 1 <= self.N <= 65536):
+            return False
+        if not (1 <= self.r <= 1000 and 1 <= self.w <= 1000):
+            return False
+        if sorted(self.E + self.C + self.D) != list(range(self.b)):
+            return False
+        held = [self.page[f] for f in self.C + self.D]
+        if any(q >= self.N for q in held) or len(set(held)) != len(held):
+            return False
+        if any(self.page[f] != 0 for f in self.E):
+            return False
+        return (0 <= self.target <= self.b * UNIT and self.served <= MOST_SERVED
+                and self.nR <= self.served and self.nW <= self.b * self.served)
+
+    # ---- refusals of calls, in order
+
+    def sizes(self, frames, store):
+        if len(frames) != self.b * self.P or len(store) != self.N * self.P:
+            raise Refused(3)
+
+    def examine(self, frames, store, page, fit):
+        if not self.sound():
+            raise Refused(2)
+        self.sizes(frames, store)
+        if page >= self.N:
+            raise Refused(4)
+        if not fit:
+            raise Refused(5)
+        if self.served >= MOST_SERVED:
+            raise Refused(6)
+
+    # ---- one request
+
+    def bring(self, page, writes, frames, store):
+        """Algorithm 1: the frame that then has the page, and (result, victim page or None, pages written)."""
+        P, r, w = self.P, self.r, self.w
+        c, d = len(self.C), len(self.D)
+        for f in self.C:
+            if self.page[f] == page:
+                self.C.remove(f)
+                if writes:
+                    self.D.insert(0, f)
+                else:
+                    self.target = min(self.target + UNIT * r * d // ((r + w) * c), self.b * UNIT)
+                    self.C.insert(0, f)
+                return f, ('hit', None, 0)
+        for f in self.D:
+            if self.page[f] == page:
+                self.D.remove(f)
+                if writes:
+                    self.target = max(self.target - UNIT * w * c // ((r + w) * d), 0)
+                self.D.insert(0, f)
+                return f, ('hit', None, 0)
+        victim, written = None, 0
+        if self.E:
+            f = self.E.pop()
+        elif c * UNIT > self.target or not self.D:
+            f = self.C.pop()
+            victim = ('clean', self.page[f])
+        else:
+            f = self.D.pop()
+            victim = ('dirty', self.page[f])
+            q = self.page[f]
+            store[q * P:q * P + P] = frames[f * P:f * P + P]
+            self.nW += 1
+            written = 1
+        frames[f * P:f * P + P] = store[page * P:page * P + P]
+        self.nR += 1
+        self.page[f] = page
+        (self.D if writes else self.C).insert(0, f)
+        return f, ('fault', victim, written)
+
+    def read(self, page, frames, store, out):
+        self.examine(frames, store, page, len(out) == self.P)
+        f, answer = self.bring(page, False, frames, store)
+        self.served += 1
+        out[:] = frames[f * self.P:f * self.P + self.P]
+        return answer
+
+    def write(self, page, start, data, frames, store):
+        self.examine(frames, store, page, len(data) > 0 and start + len(data) <= self.P)
+        f, answer = self.bring(page, True, frames, store)
+        self.served += 1
+        at = f * self.P + start
+        frames[at:at + len(data)] = data
+        return answer
+
+    def flush(self, frames, store):
+        if not self.sound():
+            raise Refused(2)
+        self.sizes(frames, store)
+        if self.served >= MOST_SERVED:
+            raise Refused(6)
+        P, n = self.P, len(self.D)
+        while self.D:
+            f = self.D.pop()
+            q = self.page[f]
+            store[q * P:q * P + P] = frames[f * P:f * P + P]
+            self.C.insert(0, f)
+            self.nW += 1
+        self.served += 1
+        return n
+
+    def total(self):
+        if not self.sound():
+            raise Refused(2)
+        return self.nR * self.r + self.nW * self.w
+
+
+# ---- trace files
+
+def trailer(data):
+    """Refusals 7 and 1; else the seven numbers."""
+    if len(data) < 20:
+        raise Refused(7)
+    t = struct.unpack('<IIHHIHH', data[-20:])
+    distance, records, b, P, N, r, w = t
+    if distance != 20 + 4 * records or distance > len(data):
+        raise Refused(7)
+    if not allowed(b, P, N, r, w):
+        raise Refused(1)
+    return t
+
+
+def records(data):
+    """The trailer's numbers and every record as (letter, value, page); refusals 7, 1, 8."""
+    t = trailer(data)
+    found = []
+    for k in range(t[1]):
+        at = len(data) - t[0] + 4 * k
+        letter, value, page = struct.unpack('<cBH', data[at:at + 4])
+        right = ((letter == b'R' and value == 0 and page < t[4]) or (letter == b'W' and page < t[4])
+                 or (letter == b'F' and value == 0 and page == 0))
+        if not right:
+            raise Refused(8, k + 1)
+        found.append((letter.decode(), value, page))
+    return t, found
+
+
+def encode(notes, rs, b, P, N, r, w):
+    body = b''.join(struct.pack('<cBH', letter.encode(), value, page) for letter, value, page in rs)
+    return notes + body + struct.pack('<IIHHIHH', 20 + 4 * len(rs), len(rs), b, P, N, r, w)
+
+
+def listing(data):
+    """What the trace program prints, whole."""
+    try:
+        if len(data) > 16384:
+            raise Refused(9)
+        (_, _, b, P, N, r, w), rs = records(data)
+        if b * P > 8192 or N * P > 32768:
+            raise Refused(10)
+    except Refused as no:
+        return 'refused %d%s\n' % (no.number, '' if no.record is None else ' at %d' % no.record)
+    pool, frames, store, out = Pool(b, P, N, r, w), bytearray(b * P), bytearray(N * P), bytearray(P)
+    lines = ['request op page result victim writes clean dirty target byte']
+    for k, (letter, value, page) in enumerate(rs, 1):
+        if letter == 'F':
+            n = pool.flush(frames, store)
+            lines.append('%d F - - - %d %d %d %d -' % (k, n, len(pool.C), len(pool.D), pool.target))
+            continue
+        if letter == 'R':
+            result, victim, written = pool.read(page, frames, store, out)
+            byte = out[0]
+        else:
+            result, victim, written = pool.write(page, 0, bytes([value]), frames, store)
+            byte = value
+        lines.append('%d %s %d %s %s %d %d %d %d %d' % (k, letter, page, result, '-' if victim is None else victim[1], written,
+                                                       len(pool.C), len(pool.D), pool.target, byte))
+    lines.append('end %d %d %d' % (pool.nR, pool.nW, pool.total()))
+    return '\n'.join(lines) + '\n'
+
+
+if __name__ == '__main__':
+    if sys.argv[1:] != ['run']:
+        sys.exit(__doc__)
+    sys.stdout.write(listing(sys.stdin.buffer.read()))
