@@ -1,10 +1,10 @@
 -- The bytes of a request: what `pages` did to them is what its answer says. Assumes nothing.
-use mathlib.Core.Path.{_≡_, refl, sym, ap, _∙_}
-use Prim.Native.Nat.{ℕ, _*_, _<_}
+use mathlib.Core.Path.{_≡_, sym, ap, _∙_}
+use Prim.Native.Nat.{ℕ, _*_}
 use mathlib.Core.List.{List}
-use Rattle.pages.specs.Pages.{pageOf, withPage, InPages}
+use Rattle.pages.specs.Pages.{pageOf, withPage}
 use Rattle.pages.proofs.Pages.{page-in}
-use Rattle.model.specs.Bytes.{Memory, brought}
+use Rattle.model.specs.Bytes.{brought}
 use Rattle.model.specs.declared.Victim.{Victim}
 use Rattle.model.specs.declared.Victim.the-variants.{None, Clean, Dirty}
 use Rattle.model.specs.declared.Answer.{Answer}

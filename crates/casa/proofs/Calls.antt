@@ -14,8 +14,7 @@ use Rattle.order.proofs.Count.{count-here}
 use Rattle.model.specs.Numbers.{mostServed}
 use Rattle.model.specs.Words.{flushed as saidFlushed, total as saidTotal, answerSays, refusalSays}
 use Rattle.model.specs.Request.{Outcome, request, flushed}
-use Rattle.model.specs.Bytes.{Memory, brought}
-use Rattle.model.specs.Run.{outcomeOf}
+use Rattle.model.specs.Bytes.{brought}
 use Rattle.model.specs.Refusals.{requestVerdict, flushVerdict, totalVerdict, outputFits, stretchFits}
 use Rattle.model.specs.declared.Op.{Op}
 use Rattle.model.specs.declared.Op.the-variants.{Read, Write}
@@ -31,10 +30,10 @@ use Rattle.pool.specs.Test.{soundB}
 use Rattle.pool.specs.Parts.{Decides}
 use Rattle.pool.specs.declared.Pool.{Pool}
 use Rattle.pool.proofs.Decides.{soundB-decides}
-use Rattle.pool.proofs.Form.{dirty-holds, dirty-frame, page-pad, page-at, held-page}
+use Rattle.pool.proofs.Form.{dirty-holds, dirty-frame, page-pad, held-page}
 use Rattle.step.specs.Step.{stepOf}
 use Rattle.step.specs.declared.Step.{Step}
-use Rattle.casa.specs.Calls.{memory, worldOf, costsIn, Lent, AnswerIn, ReadLeft, readServed, readIf, readAfter, WriteLeft, writeServed, writeIf, writeAfter, FlushLeft, flushServed, flushIf, flushAfter, totalAfter}
+use Rattle.casa.specs.Calls.{memory, costsIn, Lent, AnswerIn, ReadLeft, readServed, readIf, readAfter, WriteLeft, writeServed, writeIf, writeAfter, FlushLeft, flushServed, flushIf, flushAfter, totalAfter}
 use Rattle.casa.proofs.Brought.{answer-in}
 
 -- ---- a request: x is what the step gave

@@ -1,23 +1,23 @@
 -- A pool made anew is the one that holds the opened state; and which way opening goes. Assumes nothing.
-use mathlib.Core.Path.{_≡_, refl, sym, ap, _∙_}
-use mathlib.Core.Bool.{Bool, true, false, _&&_}
+use mathlib.Core.Path.{_≡_, sym, ap, _∙_}
+use mathlib.Core.Bool.{true, false, _&&_}
 use mathlib.Core.Logic.{_≢_}
-use Prim.Native.Nat.{ℕ, zero, suc, _+_, _-_, _≤_}
+use Prim.Native.Nat.{ℕ, _+_, _-_, _≤_}
 use native.Mathlib.Omega.{arith}
-use mathlib.Core.List.{List, [], _∷_, _++_}
+use mathlib.Core.List.{List, []}
 use lib.Dec.{eqb}
 use lib.ListN.{length, replicate, length-replicate, replicate-append-replicate}
 use borrow.Author.Tests.{eq-eqb, ne-eqb}
 use Rattle.order.specs.Lists.{downFrom}
 use Rattle.order.specs.Places.{places, pad, Holds}
-use Rattle.model.specs.Numbers.{Numbers, if-else, inLimits, meant}
+use Rattle.model.specs.Numbers.{Numbers, inLimits, meant}
 use Rattle.model.specs.State.{opened}
 use Rattle.model.specs.Refusals.{openVerdict}
 use Rattle.model.specs.declared.Refusal.the-variants.{OutOfLimits}
 use Rattle.model.specs.Words.{opened as saidOpened, refusalSays}
 use Rattle.pool.specs.Pool.{poolOf}
 use Rattle.pool.specs.declared.Pool.{Pool}
-use Rattle.casa.specs.Calls.{numbers, zeroPool, OpenLeft, openIf, openBy, openAfter}
+use Rattle.casa.specs.Calls.{numbers, zeroPool, OpenLeft, openBy, openAfter}
 
 abbrev zeros : ℕ → List ℕ
 zeros n = replicate n 0

@@ -1,11 +1,11 @@
 -- Each promise allows one result: two results of a call that meet it are equal, the returned struct and every lent byte. What an answer says leads back to
 -- the answer, so nothing is lost by stating promises in the scope's words.
 -- Assumes nothing.
-use mathlib.Core.Path.{_≡_, refl, sym, ap, _∙_}
+use mathlib.Core.Path.{_≡_, sym, ap, _∙_}
 use Prim.Native.Nat.{ℕ}
 use mathlib.Core.List.{List}
 use Rattle.model.specs.Numbers.{Numbers}
-use Rattle.model.specs.Words.{Said, answerSays, costingSays}
+use Rattle.model.specs.Words.{answerSays, costingSays}
 use Rattle.model.specs.declared.Costing.{Costing}
 use Rattle.model.proofs.Words.{answer-one-to-one, opening-one-to-one, flushing-one-to-one, costing-one-to-one}
 use Rattle.pool.specs.declared.Pool.{Pool}

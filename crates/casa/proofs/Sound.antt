@@ -1,13 +1,10 @@
 -- A pool used only through its calls stays sound: an accepted open gives a sound pool, and every call on a sound pool returns one, refused or served.
 -- Assumes nothing.
-use mathlib.Core.Path.{_≡_, refl, sym, ap, _∙_, subst}
-use mathlib.Core.Bool.{Bool, true, false}
+use mathlib.Core.Path.{_≡_, refl, sym, subst}
 use Prim.Native.Nat.{ℕ, _<_}
-use mathlib.Core.List.{List, [], _∷_}
+use mathlib.Core.List.{List, []}
 use lib.ListN.{length}
 use Rattle.model.specs.Numbers.{Numbers, inLimits, meant, mostServed}
-use Rattle.model.specs.Target.{Costs}
-use Rattle.model.specs.Good.{Blank}
 use Rattle.model.specs.Request.{request, flushed}
 use Rattle.model.specs.Refusals.{openRows, openVerdict, requestVerdict, flushVerdict, outputFits, stretchFits}
 use Rattle.model.specs.declared.Op.{Op}
@@ -15,7 +12,7 @@ use Rattle.model.specs.declared.Op.the-variants.{Read, Write}
 use Rattle.model.specs.declared.Verdict.{Verdict}
 use Rattle.model.specs.declared.Verdict.the-variants.{Fine, Refused}
 use Rattle.model.proofs.Good.{opened-good, opened-blank}
-use Rattle.model.proofs.Keeps.{Kept, request-kept, flush-good}
+use Rattle.model.proofs.Keeps.{request-kept, flush-good}
 use Rattle.model.proofs.Limits.{limits-hold}
 use Rattle.model.proofs.Refusals.{not-false, first-clear, request-clear, flush-clear}
 use Rattle.pool.specs.Pool.{poolOf, stateOf, Sound}

@@ -1,7 +1,7 @@
 -- The answers of the functions of the test: a no where something is wrong, and behind the tests that have passed the answer of the last one.
 --     limits-refused, limits-last, counts-last, lengths-last, tails-last    numbers, counts, lengths, places without meaning
---     marks-length, frames-decides    the marks of the three lists
---     pages-last, sound-refused, sound-last    the pages, and the whole
+--     frames-decides, pages-last    frames and pages
+--     sound-refused, sound-last    the whole
 -- Assumes nothing.
 use mathlib.Core.Path.{_≡_, refl, ap, _∙_}
 use mathlib.Core.Bool.{Bool, true, false}
@@ -16,7 +16,7 @@ use Rattle.pool.specs.Parts.{Decides, every, isZero, isSome, isAtMost, z
 use Rattle.pool.specs.Pool.{Sound}
 use Rattle.pool.specs.Test.{soundB}
 use Rattle.pool.specs.declared.Pool.{Pool}
-use Rattle.pool.proofs.Marks.{marked-length, marked-append}
+use Rattle.pool.proofs.Marks.{marked-append}
 use Rattle.pool.proofs.Exact.{exact-iff, exact-eqb, exact-leb}
 use Rattle.pool.proofs.Parts.{LimitsIn, CountsIn, LengthsIn, TailsIn, FramesIn, PagesIn, PartsRight, sound-parts, parts-sound}
 use Rattle.pool.proofs.Decides.{decides-of, decides-test, decides-iff, decides-same, limits-decides, soundB-decides}
@@ -52,18 +52,14 @@ tails-last e en c cn d dn page b t he hc hd h =
 
 -- ---- frames
 
-module _ (E C D m1 m2 m3 : List ℕ) (e1 : m1 ≡ marked E (replicate 256 0)) (e2 : m2 ≡ marked C m1) (e3 : m3 ≡ marked D m2) where
-  marks-all : m3 ≡ marked (E ++ (C ++ D)) (replicate 256 0)
-  marks-all = rw (e3, e2, e1, marked-append E (C ++ D) (replicate 256 0), marked-append C D)
-
-  pub marks-length : length m3 ≡ 256
-  marks-length = ap length marks-all ∙ marked-length (E ++ (C ++ D)) (replicate 256 0)
-
-  pub frames-decides : (b : ℕ) → b ≤ 256 → length E + (length C + length D) ≡ b → (t : Bool) → t ≡ every isSome (take b m3)
-      → Decides t (FramesRight b E C D)
-  frames-decides b small sum t e =
-      let x : t ≡ every isSome (take b (marked (E ++ (C ++ D)) (replicate 256 0))) = e ∙ ap (λ (m : List ℕ). every isSome (take b m)) marks-all in
-      rw x (decides-of (every isSome (take b (marked (E ++ (C ++ D)) (replicate 256 0)))) (frames-exact b E C D small sum))
+-- the marks of three lists, made one list after the other
+pub frames-decides : (b : ℕ) (E C D : List ℕ) → b ≤ 256 → length E + (length C + length D) ≡ b
+    → (m1 m2 m3 : List ℕ) → m1 ≡ marked E (replicate 256 0) → m2 ≡ marked C m1 → m3 ≡ marked D m2
+    → (t : Bool) → t ≡ every isSome (take b m3) → Decides t (FramesRight b E C D)
+frames-decides b E C D small sum m1 m2 m3 e1 e2 e3 t e =
+    let all : m3 ≡ marked (E ++ (C ++ D)) (replicate 256 0) = rw (e3, e2, e1, marked-append E (C ++ D) (replicate 256 0), marked-append C D) in
+    let x : t ≡ every isSome (take b (marked (E ++ (C ++ D)) (replicate 256 0))) = e ∙ ap (λ (m : List ℕ). every isSome (take b m)) all in
+    rw x (decides-of (every isSome (take b (marked (E ++ (C ++ D)) (replicate 256 0)))) (frames-exact b E C D small sum))
 
 -- ---- pages
 

@@ -5,7 +5,7 @@ use Prim.Native.Nat.{ℕ, zero, suc, _+_, _*_, _≤_, _<_}
 use mathlib.Core.Bool.{Bool, true, false, not, _&&_, _||_}
 use mathlib.Core.List.{List, [], _∷_}
 use lib.Dec.{eqb, leb}
-use lib.ListN.{getD, set, take, drop}
+use lib.ListN.{getD, set, drop}
 use Rattle.order.specs.Count.{bit, count}
 use Rattle.model.specs.Numbers.{unit, mostServed}
 

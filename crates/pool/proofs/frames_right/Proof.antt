@@ -1,10 +1,12 @@
 -- `pool::frames_right` meets its contract. The three calls leave the marks of all the numbers, one list after the other; as many numbers as frames
 -- mark every frame only where each frame stands once. Assumes nothing.
+use mathlib.Core.Path.{ap, _∙_}
 use native.Mathlib.Omega.{arith}
 use borrow.Author.Needs.{needs}
-use lib.ListN.{take}
+use lib.ListN.{length, take}
 use lib.Seq.{length-take-le}
-use Rattle.pool.proofs.Answers.{marks-length, frames-decides}
+use Rattle.pool.proofs.Marks.{marked-length}
+use Rattle.pool.proofs.Answers.{frames-decides}
 use Rattle.pool.proofs.frames_right.Statement.{statement}
 use Rattle.pool.proofs.frames_right.Tie as tie
 
@@ -19,24 +21,24 @@ mark-requires-3 c κs = search needs
 
 all-marked-requires : tie.Need-all-marked-requires
 all-marked-requires c κs =
-    let a = c .before .before .before .before .before .before .before .args in (
+    let m1 = c .before .before .before .before .before .mark in
+    let m2 = c .before .before .before .mark2 in
+    let m3 = c .before .mark3 in (
       search needs,
-      marks-length (take (a .en) (a .e)) (take (a .cn) (a .c)) (take (a .dn) (a .d)) _ _ _ (c .before .before .before .before .before .mark .ensures) (c .before .before .before .mark2 .ensures) (c .before .mark3 .ensures),
+      ap length (m3 .ensures) ∙ simp marked-length (ap length (m2 .ensures) ∙ simp marked-length (ap length (m1 .ensures) ∙ simp marked-length)),
     )
 
 returns : tie.Need-returns
 returns c =
     let a = c .before .before .before .before .before .before .before .before .args in
-    frames-decides (take (a .en) (a .e)) (take (a .cn) (a .c)) (take (a .dn) (a .d)) _ _ _
-    (c .before .before .before .before .before .before .mark .ensures) (c .before .before .before .before .mark2 .ensures) (c .before .before .mark3 .ensures)
-    (a .frames) (search needs)
-    (omega (
-      arith,
-      length-take-le (a .en) (a .e) (search needs),
-      length-take-le (a .cn) (a .c) (search needs),
-      length-take-le (a .dn) (a .d) (search needs),
-    ))
-    _ (c .all-marked .ensures)
+    frames-decides (a .frames) (take (a .en) (a .e)) (take (a .cn) (a .c)) (take (a .dn) (a .d)) (search needs)
+    (omega (arith, length-take-le (a .en) (a .e) (search needs), length-take-le (a .cn) (a .c) (search needs), length-take-le (a .dn) (a .d) (search needs)))
+    _ _ _
+    (c .before .before .before .before .before .before .mark .ensures)
+    (c .before .before .before .before .mark2 .ensures)
+    (c .before .before .mark3 .ensures)
+    _
+    (c .all-marked .ensures)
 
 pub frames-right-spec : {M : Type 1} → statement M
 frames-right-spec =

@@ -1,0 +1,65 @@
+/* driver LOAD b P N n: one load of n calls after a warm-up, for counting instructions. Two values of n, and the difference divided, give the cost of a call.
+   Loads: trace (80 % of reads go to hot pages), front, last, spread (read hits at the front, at the last place, uniform), clean, dirty (faults), flush
+   (64 writes and a flush each), sound (totals), none (no call). */
+#include "bench.h"
+#include <stdio.h>
+#include <stdlib.h>
+#include <string.h>
+
+static u64 seed = 88172645463325252ull;
+
+static u64 next(void)
+{
+    seed ^= seed << 13, seed ^= seed >> 7, seed ^= seed << 17;
+    return seed >> 11;
+}
+
+static u8 *ops;
+static u16 *pages;
+static u64 made;
+
+static void add(int op, u64 page)
+{
+    ops[made] = (u8)op;
+    pages[made++] = (u16)page;
+}
+
+int main(int argc, char **argv)
+{
+    if (argc != 6)
+        return 2;
+    const char *load = argv[1];
+    u64 b = strtoull(argv[2], 0, 10), P = strtoull(argv[3], 0, 10), N = strtoull(argv[4], 0, 10), n = strtoull(argv[5], 0, 10), totals = 0;
+    u64 room = (n + 2) * (b + 2) + 4 * b;
+    ops = calloc(room, 1), pages = calloc(room, 2);
+    u8 *frames = calloc(b, P), *store = calloc(N, P), *out = calloc(1, P);
+    /* pages that stand apart in the store, so that low bits meet where N is large */
+    u64 stride = N / (2 * b) ? N / (2 * b) : 1, dirty = !strcmp(load, "dirty") || !strcmp(load, "flush");
+    for (u64 i = 0; i < b; i++)
+        add(dirty, i * stride % N + (N > 1024 ? next() % stride : 0));
+    u64 warm = made;
+    for (u64 i = 0; i < n; i++) {
+        u64 hot = next() % 10 < 8;
+        if (!strcmp(load, "trace"))
+            add(0, hot ? pages[next() % (b - b / 4 ? b - b / 4 : 1)] : next() % N);
+        else if (!strcmp(load, "front"))
+            add(0, pages[warm - 1]);
+        else if (!strcmp(load, "last"))
+            add(0, pages[i % b]);
+        else if (!strcmp(load, "spread"))
+            add(0, pages[next() % b]);
+        else if (!strcmp(load, "clean"))
+            add(0, (b * stride + 1 + i) % N);
+        else if (!strcmp(load, "dirty"))
+            add(1, (b * stride + 1 + i) % N);
+        else if (!strcmp(load, "flush")) {
+            for (u64 k = 0; k < b; k++)
+                add(1, pages[k]);
+            add(2, 0);
+        } else if (!strcmp(load, "sound"))
+            totals = n;
+    }
+    u64 r = bench_serve(b, P, N, ops, made, pages, made, frames, b * P, store, N * P, out, P, totals);
+    printf("%llu\n", r);
+    return 0;
+}
