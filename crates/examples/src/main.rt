@@ -1,4 +1,4 @@
-// Runs the scope's worked examples that concern calls, on both sides of each edge, and prints what came out.
+// Runs the scope's worked examples that are not proved in its table, on both sides of each edge, and prints what came out.
 ghost use Prim.Native.Nat.{_≤_};
 ghost use lib.ListN.{length};
 use casa::Flushed;
@@ -11,6 +11,8 @@ use model::Opening;
 use model::Refusal;
 use model::Victim;
 use pool::Pool;
+use trace::Checked;
+use trace::Next;
 
 // ---- words and numbers
 
@@ -373,10 +375,136 @@ fn sets() {
     }
 }
 
+// ---- traces
+
+fn tell_trace(bytes: &[u8]) {
+    word(b"trace of");
+    number(bytes.len() as u64);
+    match trace::check(bytes) {
+        Checked::Refused(why) => refused(why),
+        Checked::Fine(trailer) => {
+            word(b" read with records");
+            number(trailer.records as u64);
+        }
+    }
+    match trace::record_at(bytes, 0) {
+        Next::Record(_) => word(b" first there"),
+        Next::End => word(b" none"),
+    }
+    end();
+}
+
+// 19 bytes; 20 bytes with distance 20, no records and numbers that are allowed; the same with b = 65; one record, R 7, and one that is not, R 8.
+fn traces() {
+    let short = [0u8; 19];
+    tell_trace(&short);
+    let bare = [
+        20u8,
+        0,
+        0,
+        0,
+        0,
+        0,
+        0,
+        0,
+        2,
+        0,
+        16,
+        0,
+        8,
+        0,
+        0,
+        0,
+        1,
+        0,
+        3,
+        0,
+    ];
+    tell_trace(&bare);
+    let wide = [
+        20u8,
+        0,
+        0,
+        0,
+        0,
+        0,
+        0,
+        0,
+        65,
+        0,
+        16,
+        0,
+        8,
+        0,
+        0,
+        0,
+        1,
+        0,
+        3,
+        0,
+    ];
+    tell_trace(&wide);
+    let one = [
+        82u8,
+        0,
+        7,
+        0,
+        24,
+        0,
+        0,
+        0,
+        1,
+        0,
+        0,
+        0,
+        2,
+        0,
+        16,
+        0,
+        8,
+        0,
+        0,
+        0,
+        1,
+        0,
+        3,
+        0,
+    ];
+    tell_trace(&one);
+    let bad = [
+        82u8,
+        0,
+        8,
+        0,
+        24,
+        0,
+        0,
+        0,
+        1,
+        0,
+        0,
+        0,
+        2,
+        0,
+        16,
+        0,
+        8,
+        0,
+        0,
+        0,
+        1,
+        0,
+        3,
+        0,
+    ];
+    tell_trace(&bad);
+}
+
 fn main() {
     openings();
     one_frame();
     pages_and_stretches();
     last_calls();
     sets();
+    traces();
 }

@@ -1,0 +1,7 @@
+-- The laws of `trace`: Bytes, Trailers and Records for its own functions; Settled, Reading and Round for its callers. Assumes nothing.
+pub mod Bytes
+pub mod Trailers
+pub mod Records
+pub mod Settled
+pub mod Reading
+pub mod Round

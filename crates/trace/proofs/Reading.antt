@@ -1,0 +1,67 @@
+-- What the reader finds, told from what the check says of the trace. Assumes nothing.
+use mathlib.Core.Path.{_≡_, refl}
+use mathlib.Core.Bool.{Bool, true, false}
+use mathlib.Core.List.{List}
+use Prim.Native.Nat.{ℕ, _-_, _≤_, _<_}
+use native.Mathlib.Omega.{arith}
+use lib.Dec.{eqb}
+use lib.ListN.{length}
+use borrow.Author.Tests.{lt-ltb, le-ltb, eqb-true}
+use Rattle.model.specs.Numbers.{if-else}
+use Rattle.model.specs.declared.Refusal.{Refusal}
+use Rattle.model.specs.declared.Refusal.the-variants.{BadRecord}
+use Rattle.trace.specs.declared.Trailer.{Trailer}
+use Rattle.trace.specs.declared.Checked.{Checked}
+use Rattle.trace.specs.declared.Checked.the-variants.{Refused, Fine}
+use Rattle.trace.specs.declared.Next.the-variants.{End}
+use Rattle.trace.specs.Format.{headerOf, recordAt, isEnd, badIn, checkedAll, checkedOf}
+use Rattle.trace.proofs.Records.{firstBad-none}
+
+-- ---- what the check says of the header
+
+-- a trace that is refused, but not for a record, is refused for its trailer
+pub refused-header : (s : List ℕ) (x : Refusal) → ((k : ℕ) → x ≡ BadRecord k → ⊥) → checkedOf s ≡ Refused x → headerOf s ≡ Refused x
+unfolding checkedOf
+refused-header s x other e = go (headerOf s) e
+  where
+    by : (b : Bool) (t : Trailer) → if-else b (Fine t) (Refused (BadRecord (badIn s t))) ≡ Refused x → Fine t ≡ Refused x
+    by true t d = d
+    by false t d = absurd (other (badIn s t) (cc))
+
+    go : (h : Checked) → checkedAll h s ≡ Refused x → h ≡ Refused x
+    go (Refused y) d = d
+    go (Fine t) d = by (eqb (badIn s t) 0) t d
+
+-- a trace that is not refused has the trailer of its header, and no bad record
+pub fine-header : (s : List ℕ) (t : Trailer) → checkedOf s ≡ Fine t → (headerOf s ≡ Fine t) × (badIn s t ≡ 0)
+unfolding checkedOf
+fine-header s t e = go (headerOf s) e
+  where
+    by : (b : Bool) (u : Trailer) → eqb (badIn s u) 0 ≡ b → if-else b (Fine u) (Refused (BadRecord (badIn s u))) ≡ Fine t
+        → (_≡_ {A = Checked} (Fine u) (Fine t)) × (badIn s t ≡ 0)
+    by true u p d = (d, let f : u ≡ t = cc in rw f at (eqb-true (badIn s u) 0 p))
+    by false u p d = absurd (let z : _≡_ {A = ℕ} 0 1 = cc in omega arith)
+
+    go : (h : Checked) → checkedAll h s ≡ Fine t → (h ≡ Fine t) × (badIn s t ≡ 0)
+    go (Refused y) d = absurd (let z : _≡_ {A = ℕ} 0 1 = cc in omega arith)
+    go (Fine u) d = by (eqb (badIn s u) 0) u refl d
+
+-- ---- what the reader finds
+
+-- where 7 or 1 refuses the bytes there is no record
+pub refused-none : (s : List ℕ) (x : Refusal) → headerOf s ≡ Refused x → (k : ℕ) → recordAt s k ≡ End
+unfolding recordAt
+refused-none s x e k = rw e
+
+-- past the last there is no record
+pub past-none : (s : List ℕ) (t : Trailer) → headerOf s ≡ Fine t → (k : ℕ) → t .records ≤ k → recordAt s k ≡ End
+unfolding recordAt
+past-none s t e k h = rw (e, le-ltb k (t .records) h)
+
+-- a trace that is not refused has a record at each place
+pub fine-record : (s : List ℕ) (t : Trailer) → checkedOf s ≡ Fine t → (k : ℕ) → k < t .records → isEnd (recordAt s k) ≡ false
+unfolding recordAt
+fine-record s t e k h =
+    let f = fine-header s t e in
+    rw (f .0, lt-ltb k (t .records) h)
+    (firstBad-none s (t .pages) (length s - t .distance) 0 (t .records) (f .1) k (omega arith) (omega arith))

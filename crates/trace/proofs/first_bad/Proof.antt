@@ -1,0 +1,85 @@
+-- `trace::first_bad` meets its contract. The loop's invariant: the search among all records is the search that goes on after the first `k`.
+-- A turn takes one record more, or answers with its number; at the end none is left. The measure is how many are left. Assumes nothing.
+use mathlib.Core.Path.{_≡_, sym, _∙_}
+use Prim.Native.Nat.{_≤_, _-_}
+use native.Mathlib.Nat.{sub-zero}
+use native.Mathlib.Omega.{arith}
+use borrow.Author.Needs.{needs}
+use denote.Ref.{now}
+use Rattle.trace.specs.Format.{firstBad}
+use Rattle.trace.proofs.Records.{firstBad-next, firstBad-here, firstBad-done}
+use Rattle.trace.proofs.first_bad.Statement.{statement}
+use Rattle.trace.proofs.first_bad.Tie as tie
+
+abbrev Inv-loop : tie.InvT-loop
+Inv-loop bytes start records pages k₀ k =
+    (k ≤ records) × (firstBad bytes pages start 0 records ≡ firstBad bytes pages start k (records - k))
+
+abbrev μ-loop : tie.MeasureT-loop
+μ-loop bytes start records pages k₀ k = records - k
+
+loop-holds : tie.Need-loop-holds Inv-loop μ-loop
+loop-holds c = (omega arith, rw sub-zero)
+
+mul-record-in : tie.Need-mul-record-in Inv-loop μ-loop
+mul-record-in c = search needs
+
+add-record-in : tie.Need-add-record-in Inv-loop μ-loop
+add-record-in c = search needs
+
+record-in-requires : tie.Need-record-in-requires Inv-loop μ-loop
+record-in-requires c κs = search needs
+
+enum-told : tie.Need-enum-told Inv-loop μ-loop
+enum-told c = search needs
+
+add-k : tie.Need-add-k Inv-loop μ-loop
+add-k c = search needs
+
+loop-less : tie.Need-loop-less Inv-loop μ-loop
+loop-less c = search needs
+
+loop-again : tie.Need-loop-again Inv-loop μ-loop
+loop-again c =
+    let a = c .before .before .before .before .before .before .args in
+    let l = c .before .before .before .before .loop in
+    let e = sym (c .before .before .record-in .ensures) ∙ c .enum-told .given .1 in
+    (omega arith, l .inv .1 ∙ firstBad-next (now (a .bytes)) (a .pages) (a .start) (l .k) (a .records) _ (omega arith) e)
+
+enum-told-2 : tie.Need-enum-told-2 Inv-loop μ-loop
+enum-told-2 c = search needs
+
+add-result : tie.Need-add-result Inv-loop μ-loop
+add-result c = search needs
+
+returns : tie.Need-returns Inv-loop μ-loop
+returns c =
+    let a = c .before .before .before .before .before .before .args in
+    let l = c .before .before .before .before .loop in
+    let e = sym (c .before .before .record-in .ensures) ∙ c .enum-told2 .given .1 in
+    sym (l .inv .1 ∙ firstBad-here (now (a .bytes)) (a .pages) (a .start) (l .k) (a .records) (omega arith) e)
+
+returns-2 : tie.Need-returns-2 Inv-loop μ-loop
+returns-2 c =
+    let a = c .before .before .before .args in
+    let l = c .before .loop in
+    sym (l .inv .1 ∙ firstBad-done (now (a .bytes)) (a .pages) (a .start) (l .k) (a .records) (omega arith))
+
+pub first-bad-spec : {M : Type 1} → statement M
+first-bad-spec =
+    tie.close
+    (tie.spec
+    Inv-loop
+    μ-loop
+    loop-holds
+    mul-record-in
+    add-record-in
+    record-in-requires
+    enum-told
+    add-k
+    loop-less
+    loop-again
+    enum-told-2
+    add-result
+    returns
+    returns-2)
