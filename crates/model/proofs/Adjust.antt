@@ -30,7 +30,7 @@ pub record Adjusted (s t : State) (l : List Adjustment) : Type 0 where
   pub target : t .target ≡ adjustAllBy rounded (s .numbers .b) (s .target) l
   pub divide : 0 < s .numbers .r + s .numbers .w → AllDivide l
 
-stays : (s t : State) → t .numbers ≡ s .numbers → t .target ≡ s .target → Adjusted s t []
+pub stays : (s t : State) → t .numbers ≡ s .numbers → t .target ≡ s .target → Adjusted s t []
 stays s t n e = record { numbers = n; target = e; divide = λ p. tt }
 
 fault-adjusted : (op : Op) (s : State) (q : ℕ) (k : Choice) → Adjusted s (faultInto op q (taken s k) .state) []
@@ -51,7 +51,7 @@ request-adjusted Read s q (InDirty i) p = stays _ _ refl refl
 request-adjusted Read s q Absent p = fault-adjusted Read s q (chosen s)
 request-adjusted Write s q Absent p = fault-adjusted Write s q (chosen s)
 
-call-adjusted : (v : Verdict) (x : World) (c : Call) → Adjusted (x .state) (afterBy v x c .state) (adjustmentsBy v (x .state) c)
+pub call-adjusted : (v : Verdict) (x : World) (c : Call) → Adjusted (x .state) (afterBy v x c .state) (adjustmentsBy v (x .state) c)
 call-adjusted (Refused y) x c = stays _ _ refl refl
 call-adjusted Fine x (read q n) = request-adjusted Read (x .state) q (locate (x .state) q) (locate-right (x .state) q)
 call-adjusted Fine x (write q start bytes) = request-adjusted Write (x .state) q (locate (x .state) q) (locate-right (x .state) q)
@@ -67,7 +67,7 @@ divide-append : (l k : List Adjustment) → AllDivide l → AllDivide k → AllD
 divide-append [] k p q = q
 divide-append (a ∷ l) k p q = (p .0, divide-append l k (p .1) q)
 
-adjusted-append : (s t u : State) (l k : List Adjustment) → Adjusted s t l → Adjusted t u k → Adjusted s u (l ++ k)
+pub adjusted-append : (s t u : State) (l k : List Adjustment) → Adjusted s t l → Adjusted t u k → Adjusted s u (l ++ k)
 adjusted-append s t u l k x y =
     record {
       numbers = y .numbers ∙ x .numbers;

@@ -60,7 +60,7 @@ module _ (x : World) (h : History) (r : Right x h) where
     read-right : Right (readWorld x q) h
     read-right = afterwards Read q inside left (broughtIn Read x q) h read-bytes
 
-    read-hands-out : handedOut x q ≡ h q
+    pub read-hands-out : handedOut x q ≡ h q
     read-hands-out =
         read-bytes .held q (outcomeOf Read x q .frame)
         (read-has (x .state .numbers) (bufferOf (x .state) (x .memory)) h (r .keeps) q (outcomeOf Read x q .frame) inside (kept Read q inside left .frame)
