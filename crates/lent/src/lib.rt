@@ -1,0 +1,63 @@
+// The same calls on a pool that is lent, and brought up to date where it stands: for a loop that holds one pool. Each is thin over the call by value, and
+// answers alike.
+ghost use mathlib.Core.Path.{_≡_};
+ghost use Rattle.casa.specs.Calls.{readLeft, readAfter, writeLeft, writeAfter, flushLeft, flushAfter};
+use casa::Served;
+use model::Answer;
+use model::Flushing;
+use pool::Pool;
+
+// Reads a page into `out`. Refused: 2, 3, 4, 5, 6.
+pub fn read_page_in(
+    pool: &mut Pool,
+    page: usize,
+    frames: &mut [u8],
+    store: &mut [u8],
+    out: &mut [u8],
+) -> Answer
+    ensures { λ r. ⌜ readLeft (record { pool = now (pool .exit); answer = r }) (now (frames .exit)) (now (store .exit)) (now (out .exit)) ≡ readAfter (now (pool .entry)) page (now (frames .entry)) (now (store .entry)) (now (out .entry)) ⌝ }
+{
+    let done = casa::read_page(*pool, page, frames, store, out);
+    *pool = done.pool;
+    done.answer
+}
+
+// Writes `bytes` into a page from its byte `start` on. Refused: 2, 3, 4, 5, 6.
+pub fn write_page_in(
+    pool: &mut Pool,
+    page: usize,
+    start: usize,
+    bytes: &[u8],
+    frames: &mut [u8],
+    store: &mut [u8],
+) -> Answer
+    ensures { λ r. ⌜ writeLeft (record { pool = now (pool .exit); answer = r }) (now (frames .exit)) (now (store .exit)) ≡ writeAfter (now (pool .entry)) page start (now (bytes .entry)) (now (frames .entry)) (now (store .entry)) ⌝ }
+{
+    let done = casa::write_page(*pool, page, start, bytes, frames, store);
+    *pool = done.pool;
+    done.answer
+}
+
+// Writes every changed page to the store. Refused: 2, 3, 6.
+pub fn flush_in(pool: &mut Pool, frames: &[u8], store: &mut [u8]) -> Flushing
+    ensures { λ r. ⌜ flushLeft (record { pool = now (pool .exit); answer = r }) (now (store .exit)) ≡ flushAfter (now (pool .entry)) (now (frames .entry)) (now (store .entry)) ⌝ }
+{
+    let done = casa::flush(*pool, frames, store);
+    *pool = done.pool;
+    done.answer
+}
+
+// A caller that lends a pool of its own is promised what the call by value promises: both answer alike.
+pub fn read_page_held(
+    pool: Pool,
+    page: usize,
+    frames: &mut [u8],
+    store: &mut [u8],
+    out: &mut [u8],
+) -> Served
+    ensures { λ r. ⌜ readLeft r (now (frames .exit)) (now (store .exit)) (now (out .exit)) ≡ readAfter pool page (now (frames .entry)) (now (store .entry)) (now (out .entry)) ⌝ }
+{
+    let mut own = pool;
+    let answer = read_page_in(&mut own, page, frames, store, out);
+    Served { pool: own, answer }
+}
