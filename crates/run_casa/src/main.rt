@@ -15,6 +15,7 @@ use trace::Checked;
 use trace::Next;
 use trace::Record;
 use trace::Trailer;
+use trace::reader;
 
 // A longer file is refused 9; larger memory is refused 10.
 const LONGEST: usize = 16384;
@@ -185,7 +186,7 @@ fn serve_at(
     store: &mut [u8],
     out: &mut [u8],
 ) -> Pool {
-    match trace::record_at(bytes, place) {
+    match reader::nth(bytes, place) {
         Next::Record(record) => serve(k, record, pool, frames, store, out),
         Next::End => pool,
     }

@@ -1,8 +1,8 @@
--- What the reader finds, told from what the check says of the trace. Assumes nothing.
+-- What the reader finds, told from what the check says of the trace, and where it goes on. Assumes nothing.
 use mathlib.Core.Path.{_≡_, refl}
 use mathlib.Core.Bool.{Bool, true, false}
 use mathlib.Core.List.{List}
-use Prim.Native.Nat.{ℕ, _-_, _≤_, _<_}
+use Prim.Native.Nat.{ℕ, _+_, _*_, _-_, _≤_, _<_}
 use native.Mathlib.Omega.{arith}
 use lib.Dec.{eqb}
 use lib.ListN.{length}
@@ -13,8 +13,10 @@ use Rattle.model.specs.declared.Refusal.the-variants.{BadRecord}
 use Rattle.trace.specs.declared.Trailer.{Trailer}
 use Rattle.trace.specs.declared.Checked.{Checked}
 use Rattle.trace.specs.declared.Checked.the-variants.{Refused, Fine}
-use Rattle.trace.specs.declared.Next.the-variants.{End}
-use Rattle.trace.specs.Format.{headerOf, recordAt, isEnd, badIn, checkedAll, checkedOf}
+use Rattle.trace.specs.declared.Record.{Record}
+use Rattle.trace.specs.declared.Next.the-variants.{Record as Found, End}
+use Rattle.trace.specs.Format.{trailerLength, headerOf, recordAt, isEnd, placeAfter, badIn, checkedAll, checkedOf}
+use Rattle.trace.proofs.Trailers.{header-accepts}
 use Rattle.trace.proofs.Records.{firstBad-none}
 
 -- ---- what the check says of the header
@@ -65,3 +67,24 @@ fine-record s t e k h =
     let f = fine-header s t e in
     rw (f .0, lt-ltb k (t .records) h)
     (firstBad-none s (t .pages) (length s - t .distance) 0 (t .records) (f .1) k (omega arith) (omega arith))
+
+-- where there is a record, its four bytes stand before the trailer
+pub found-within : (s : List ℕ) (k : ℕ) (r : Record) → recordAt s k ≡ Found r → 4 * k + 4 + trailerLength ≤ length s
+found-within s k r e = go (headerOf s) refl
+  where
+    not-none : recordAt s k ≡ End → ⊥
+    not-none d = let z : _≡_ {A = ℕ} 0 1 = cc in omega arith
+
+    go : (h : Checked) → headerOf s ≡ h → 4 * k + 4 + trailerLength ≤ length s
+    go (Refused x) h = absurd (not-none (refused-none s x h k))
+    go (Fine t) h = let before : t .records ≤ k → ⊥ = λ p. not-none (past-none s t h k p) in omega (arith, header-accepts s t h)
+
+-- ---- the place after a record
+
+pub placeAfter-found : (s : List ℕ) (k : ℕ) (r : Record) → recordAt s k ≡ Found r → placeAfter s k ≡ k + 1
+unfolding placeAfter
+placeAfter-found s k r e = rw e
+
+pub placeAfter-end : (s : List ℕ) (k : ℕ) → recordAt s k ≡ End → placeAfter s k ≡ k
+unfolding placeAfter
+placeAfter-end s k e = rw e

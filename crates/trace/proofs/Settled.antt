@@ -5,6 +5,7 @@ use Prim.Native.Nat.{ℕ}
 use native.Mathlib.Omega.{arith}
 use lib.Dec.{eqb}
 use lib.ListN.{getD}
+use denote.Ref.{RefT, now}
 use Rattle.model.specs.Numbers.{if-else}
 use Rattle.model.proofs.Words.{refusal-one-to-one}
 use Rattle.trace.specs.declared.Checked.{Checked}
@@ -12,7 +13,8 @@ use Rattle.trace.specs.declared.Checked.the-variants.{Refused, Fine}
 use Rattle.trace.specs.declared.Record.the-variants.{Read, Write, Flush}
 use Rattle.trace.specs.declared.Next.{Next}
 use Rattle.trace.specs.declared.Next.the-variants.{Record as Found, End}
-use Rattle.trace.specs.Format.{headerOf, recordAt, checkedOf}
+use Rattle.trace.specs.declared.reader.Reader.{Reader}
+use Rattle.trace.specs.Format.{headerOf, recordAt, checkedOf, placeAfter}
 use Rattle.trace.specs.Words.{checkedSays, nextSays}
 
 -- ---- what is said of a trace
@@ -65,3 +67,26 @@ next-one-to-one x y e = sym (next-home x) ∙ ap nextIn e ∙ next-home y
 
 pub record-at-settled : (s : List ℕ) (k : ℕ) (x y : Next) → nextSays x ≡ nextSays (recordAt s k) → nextSays y ≡ nextSays (recordAt s k) → x ≡ y
 record-at-settled s k x y a b = next-one-to-one x y (a ∙ sym b)
+
+pub place-after-settled : (s : List ℕ) (k x y : ℕ) → x ≡ placeAfter s k → y ≡ placeAfter s k → x ≡ y
+place-after-settled s k x y a b = a ∙ sym b
+
+-- ---- what is said of a reader
+
+pub reader-one-to-one : (x y : Reader) → x .trace ≡ y .trace → x .place ≡ y .place → x ≡ y
+reader-one-to-one x y t p i = record { trace = t i; place = p i }
+
+pub new-settled : (trace : RefT (List ℕ)) (x y : Reader) → (x .trace ≡ trace) × (x .place ≡ 0) → (y .trace ≡ trace) × (y .place ≡ 0) → x ≡ y
+new-settled trace x y a b = reader-one-to-one x y (a .0 ∙ sym (b .0)) (a .1 ∙ sym (b .1))
+
+pub moved-settled : (r x y : Reader) → (x .trace ≡ r .trace) × (x .place ≡ placeAfter (now (r .trace)) (r .place))
+    → (y .trace ≡ r .trace) × (y .place ≡ placeAfter (now (r .trace)) (r .place)) → x ≡ y
+moved-settled r x y a b = reader-one-to-one x y (a .0 ∙ sym (b .0)) (a .1 ∙ sym (b .1))
+
+pub next-settled : (r : Reader) (x y : Next) → nextSays x ≡ nextSays (recordAt (now (r .trace)) (r .place))
+    → nextSays y ≡ nextSays (recordAt (now (r .trace)) (r .place)) → x ≡ y
+next-settled r x y a b = next-one-to-one x y (a ∙ sym b)
+
+pub nth-settled : (trace : RefT (List ℕ)) (k : ℕ) (x y : Next) → nextSays x ≡ nextSays (recordAt (now trace) k)
+    → nextSays y ≡ nextSays (recordAt (now trace) k) → x ≡ y
+nth-settled trace k x y a b = next-one-to-one x y (a ∙ sym b)

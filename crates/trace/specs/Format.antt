@@ -103,6 +103,10 @@ abbrev pub isEnd : Next → Bool
 isEnd (Found r) = false
 isEnd End = true
 
+-- the place after the record at place k; where there is none, the same place
+unfoldable pub placeAfter : List ℕ → ℕ → ℕ
+placeAfter s k = if-else (isEnd (recordAt s k)) k (k + 1)
+
 -- the number, from 1, of the first bad one among the `left` records that follow k others from byte `start` on; 0 if none is bad
 unfoldable pub firstBad : List ℕ → ℕ → ℕ → ℕ → ℕ → ℕ
 firstBad s N start k zero = 0

@@ -1,10 +1,12 @@
 // Trace files: the trailer that points back, the records, and the refusals 7, 1 and 8. Every function takes any bytes. A trace is read one record at a
 // time from the caller's bytes.
+pub mod reader;
+
 ghost use mathlib.Core.Path.{_≡_};
 ghost use Prim.Native.Nat.{_+_, _*_, _≤_, _<_, _^_};
 ghost use lib.ListN.{length};
 ghost use Rattle.model.specs.Numbers.{inLimits, meant};
-ghost use Rattle.trace.specs.Format.{numberAt, trailerAt, numbersIn, pointsBack, judged, headerOf, recordOf, recordIn, recordAt, firstBad, checkedOf};
+ghost use Rattle.trace.specs.Format.{numberAt, trailerAt, numbersIn, pointsBack, judged, headerOf, recordOf, recordIn, recordAt, firstBad, checkedOf, placeAfter};
 ghost use Rattle.trace.specs.Words.{checkedSays, nextSays};
 use model::Refusal;
 
@@ -247,4 +249,14 @@ pub fn record_at(bytes: &[u8], place: usize) -> Next
     ensures { λ r. ⌜ nextSays r ≡ nextSays (recordAt (now (bytes .entry)) place) ⌝ }
 {
     read_record(bytes, place)
+}
+
+// The place after the record at `place`; where there is none, the same place.
+pub fn place_after(bytes: &[u8], place: usize) -> usize
+    ensures { λ r. ⌜ r ≡ placeAfter (now (bytes .entry)) place ⌝ }
+{
+    match read_record(bytes, place) {
+        Next::Record(_) => place + 1,
+        Next::End => place,
+    }
 }
