@@ -2,7 +2,8 @@
 -- (what each call leaves, as its promise says) and in `model`'s specs.
 --
 -- Where the hypotheses come from: `openVerdict n ≡ Fine` says that the open was accepted; the two lengths are what refusal 3 tests, so that no call of a run
--- could be served without them; `verdictOf .. ≡ Fine` says that this very call is served.
+-- could be served without them; `verdictOf .. ≡ Fine` says that this very call is served; that no frame is empty and that the clean list is further from the
+-- exact target are the third demand's own "whenever". Nothing is asked of the pool: `used-sound` gives it.
 -- Assumes nothing.
 use mathlib.Core.Path.{_≡_}
 use Prim.Native.Nat.{ℕ, _*_}

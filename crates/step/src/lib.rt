@@ -171,6 +171,7 @@ fn write_dirty(pool: Pool, read_cost: u64, write_cost: u64, at: usize) -> Step
     }
 }
 
+// Only the order of D changes.
 fn read_dirty(pool: Pool, at: usize) -> Step
     requires { ⌜ Sound pool ⌝ }
     requires { ⌜ at < pool .«dirty_len» ⌝ }
@@ -178,9 +179,9 @@ fn read_dirty(pool: Pool, at: usize) -> Step
 {
     let dirty = pool.dirty;
     let frame = dirty[at];
-    let moved = order::move_to_front(dirty, at);
+    let reordered = order::move_to_front(dirty, at);
     let mut next = pool;
-    next.dirty = moved;
+    next.dirty = reordered;
     next.served = pool.served + 1;
     Step {
         pool: next,
@@ -197,15 +198,20 @@ fn choose(en: usize, cn: usize, dn: usize, target: u64) -> Choice
     ensures { λ r. ⌜ (r ≡ chosenBy en cn dn target) × ChoiceIn en cn dn r ⌝ }
 {
     if 0 < en {
-        return Choice::OfEmpty(en - 1);
+        let last = en - 1;
+        return Choice::OfEmpty(last);
     }
-    if target < (cn as u64) * 65536 {
-        return Choice::OfClean(cn - 1);
+    let held = (cn as u64) * 65536;
+    if target < held {
+        let last = cn - 1;
+        return Choice::OfClean(last);
     }
     if 0 < dn {
-        return Choice::OfDirty(dn - 1);
+        let last = dn - 1;
+        return Choice::OfDirty(last);
     }
-    Choice::OfClean(cn - 1)
+    let last = cn - 1;
+    Choice::OfClean(last)
 }
 
 fn free_empty(pool: Pool, at: usize) -> Freed

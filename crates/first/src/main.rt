@@ -1,0 +1,53 @@
+// A first program: opens a pool, writes a mark into a page, reads the page back, flushes, and prints what came out.
+use libc::STDOUT_FILENO;
+use model::Answer;
+use model::Flushing;
+
+fn tell(what: &[u8], n: u64) {
+    io::write_all(STDOUT_FILENO, what);
+    io::print_decimal(STDOUT_FILENO, n);
+    io::write_all(STDOUT_FILENO, b"\n");
+}
+
+fn tell_byte(what: &[u8], byte: u8) {
+    tell(what, byte as u64);
+}
+
+fn tell_read(answer: Answer, byte: u8) {
+    match answer {
+        Answer::Hit => tell_byte(b"a hit; byte 0 is ", byte),
+        Answer::Fault(_) => tell_byte(b"a fault; byte 0 is ", byte),
+        Answer::Refused(_) => tell_byte(b"refused; byte 0 is still ", byte),
+    }
+}
+
+fn tell_flush(answer: Flushing) {
+    match answer {
+        Flushing::Wrote(pages) => tell(b"pages written: ", pages as u64),
+        Flushing::Refused(_) => tell(b"refused; pages written: ", 0),
+    }
+}
+
+fn main() {
+    // 2 frames and 8 pages of 16 bytes; both costs 0 mean the usual drive.
+    let mut frames = [0u8; 32];
+    let mut store = [0u8; 128];
+    let mut out = [0u8; 16];
+    let opened = casa::open(2, 16, 8, 0, 0);
+    let fresh = opened.pool;
+
+    let mark = [77u8];
+    let wrote = casa::write_page(fresh, 7, 0, &mark, &mut frames, &mut store);
+    let marked = wrote.pool;
+
+    let read = casa::read_page(marked, 7, &mut frames, &mut store, &mut out);
+    let pool = read.pool;
+    let answer = read.answer;
+    tell_read(answer, out[0]);
+
+    tell_byte(b"in the store, before the flush: ", store[112]);
+    let flushed = casa::flush(pool, &frames, &mut store);
+    let done = flushed.answer;
+    tell_flush(done);
+    tell_byte(b"in the store, after it: ", store[112]);
+}
