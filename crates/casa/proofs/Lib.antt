@@ -1,3 +1,4 @@
+-- The laws of `casa`: Verdicts, Brought, Opening and Calls for its own functions; Sound and Settled for its callers. Assumes nothing.
 pub mod Verdicts
 pub mod Brought
 pub mod Opening

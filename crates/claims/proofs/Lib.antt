@@ -1,3 +1,4 @@
+-- The demands: Claims states them; Refused, Calls, Runs and Drift prove them. Assumes nothing.
 pub mod Refused
 pub mod Calls
 pub mod Runs

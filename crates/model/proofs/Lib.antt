@@ -1,3 +1,4 @@
+-- What follows from the definitions alone, without any code. Assumes nothing.
 pub mod Words
 pub mod Refusals
 pub mod Limits

@@ -1,3 +1,4 @@
+-- The laws of `order`: Lists and Places of lists and of the arrays that hold them, Search for `find`, Count for those who count frames. Assumes nothing.
 pub mod Lists
 pub mod Places
 pub mod Search

@@ -1,3 +1,4 @@
+-- The laws of `pool`: Form for its callers; the others for the soundness test, part by part, up to Decides and Exact. Assumes nothing.
 pub mod Every
 pub mod Marks
 pub mod Apart
