@@ -1,0 +1,14 @@
+-- `sweep::chance::area` meets its contract: the largest product fits 64 bits. Assumes nothing.
+use borrow.Author.Needs.{needs}
+use Rattle.pages.proofs.Memory.{product-fits}
+use Rattle.sweep.proofs.chance.area.Statement.{statement}
+use Rattle.sweep.proofs.chance.area.Tie as tie
+
+mul-result : tie.Need-mul-result
+mul-result c = product-fits 65536 65535 (search needs) (search needs) tt
+
+returns : tie.Need-returns
+returns c = search needs
+
+pub area-spec : {M : Type 1} → statement M
+area-spec = tie.close (tie.spec mul-result returns)

@@ -1,0 +1,267 @@
+#!/usr/bin/env python3
+"""What the program `sweep` must print, from the plain model: digests of every short sequence of calls on a small pool, of random runs at every number of
+frames, and of calls on pools in which one thing was changed. crates/sweep/stdout holds it. Standard library only.
+
+  sweep.py            prints lines `small R W LENGTH DIGEST`, `random B DIGEST` and `broken B DIGEST`, and after the runs how often each answer came
+"""
+import copy
+import struct
+import sys
+import zlib
+
+from model import MOST_SERVED, UNIT, Pool, Refused, allowed
+
+LISTS = ('empty', 'clean', 'dirty')
+NUMBERS = ('b', 'P', 'N', 'r', 'w', 'empty_len', 'clean_len', 'dirty_len', 'target', 'served', 'nR', 'nW')
+MOST = 2 ** 64 - 1
+PACKED = struct.Struct('<12Q64s64s64s64H')
+
+# An answer's kind: a refusal's is the scope's number.
+HIT, FAULT, FLUSH, TOTAL = 11, {None: 12, 'clean': 13, 'dirty': 14}, 15, 16
+
+
+# ---- a pool as numbers and places, sound or not
+
+class Raw:
+    """Every number of a pool, 64 places of each list and 64 pages."""
+
+    def __init__(self, pool):
+        self.b, self.P, self.N, self.r, self.w = pool.b, pool.P, pool.N, pool.r, pool.w
+        self.target, self.served, self.nR, self.nW = pool.target, pool.served, pool.nR, pool.nW
+        self.empty, self.clean, self.dirty, self.page = (some + [0] * (64 - len(some)) for some in (pool.E, pool.C, pool.D, pool.page))
+        self.empty_len, self.clean_len, self.dirty_len = len(pool.E), len(pool.C), len(pool.D)
+
+    def packed(self):
+        return PACKED.pack(self.b, self.P, self.N, self.r, self.w, self.empty_len, self.clean_len, self.dirty_len, self.target, self.served,
+                           self.nR, self.nW, bytes(self.empty), bytes(self.clean), bytes(self.dirty), *self.page)
+
+    def sound(self):
+        """By 'What the pool holds'."""
+        if 0 in (self.r, self.w) or not allowed(self.b, self.P, self.N, self.r, self.w):
+            return False
+        lengths = [self.empty_len, self.clean_len, self.dirty_len]
+        if max(lengths) > 64:
+            return False
+        E, C, D = (getattr(self, name)[:n] for name, n in zip(LISTS, lengths))
+        if any(any(getattr(self, name)[n:]) for name, n in zip(LISTS, lengths)):
+            return False
+        if sorted(E + C + D) != list(range(self.b)):
+            return False
+        full = [self.page[f] for f in C + D]
+        if len(set(full)) < len(full) or any(page >= self.N for page in full):
+            return False
+        if any(self.page[f] for f in range(64) if f not in C and f not in D):
+            return False
+        return (self.target <= self.b * UNIT and self.served <= MOST_SERVED
+                and self.nR <= self.served and self.nW <= self.b * self.served)
+
+    def pool(self):
+        """The same pool for the model; only if it is sound."""
+        pool = Pool(self.b, self.P, self.N, self.r, self.w)
+        pool.E, pool.C, pool.D = self.empty[:self.empty_len], self.clean[:self.clean_len], self.dirty[:self.dirty_len]
+        pool.page = self.page[:self.b]
+        pool.target, pool.served, pool.nR, pool.nW = self.target, self.served, self.nR, self.nW
+        return pool
+
+
+# ---- one call
+
+def stretch(value, length):
+    return bytes((value + 29 * i) % 256 for i in range(length))
+
+
+class Memory:
+    """The lent bytes. A call is lent the first bytes of each, as many as it says."""
+
+    def __init__(self, frames, store, out):
+        self.frames, self.store, self.out = bytearray(b'\xee' * frames), bytearray(filling(store)), bytearray(out)
+
+    def copy(self):
+        other = Memory.__new__(Memory)
+        other.frames, other.store, other.out = self.frames[:], self.store[:], self.out[:]
+        return other
+
+    def packed(self):
+        return bytes(self.frames + self.store + self.out)
+
+
+def filling(n, done={}):
+    """A store's first bytes."""
+    if n not in done:
+        seed, found = 1, bytearray()
+        for _ in range(n):
+            seed = after(seed)
+            found.append(seed % 256)
+        done[n] = bytes(found)
+    return done[n]
+
+
+def make(pool, call, memory):
+    """Makes the call on the model's pool, and gives its answer as (kind, value)."""
+    frames, store, out = memory.frames[:call['frames']], memory.store[:call['store']], memory.out[:call['out']]
+    try:
+        if call['letter'] == 'R':
+            answer = pool.read(call['page'], frames, store, out)
+        elif call['letter'] == 'W':
+            answer = pool.write(call['page'], call['start'], stretch(call['value'], call['length']), frames, store)
+        elif call['letter'] == 'F':
+            answer = (FLUSH, pool.flush(frames, store))
+        else:
+            return TOTAL, pool.total()
+    except Refused as no:
+        return no.number, 0
+    memory.frames[:len(frames)], memory.store[:len(store)], memory.out[:len(out)] = frames, store, out
+    if answer[0] == 'hit':
+        return HIT, 0
+    if answer[0] == 'fault':
+        kind, page = answer[1] or (None, 0)
+        return FAULT[kind], page
+    return answer
+
+
+class Tally:
+    def __init__(self):
+        self.digest, self.counts = 0, {}
+
+    def absorb(self, answer, raw, memory):
+        self.digest = zlib.crc32(struct.pack('<QQ', *answer) + raw.packed() + memory.packed(), self.digest)
+        self.counts[answer[0]] = self.counts.get(answer[0], 0) + 1
+
+    def told(self):
+        n = [self.counts.get(kind, 0) for kind in range(17)]
+        return 'hits %d faults %d %d %d flushes %d totals %d refused %d %d %d %d %d' % tuple(n[11:17] + n[2:7])
+
+
+# ---- every short sequence
+
+def small_call(i, letter):
+    page = letter % 3
+    return dict(letter='RWF'[letter // 3], page=page, start=5 * i % 12, length=i % 4 + 1, value=16 * i + page, frames=32, store=48, out=16)
+
+
+def copied(pool):
+    other = copy.copy(pool)
+    other.E, other.C, other.D, other.page = pool.E[:], pool.C[:], pool.D[:], pool.page[:]
+    return other
+
+
+def small(r, w):
+    """Sequences that begin alike are served together: the model's pool is copied at each fork. Within one length they still come in order."""
+    tallies = [Tally() for _ in range(6)]
+
+    def go(i, pool, memory):
+        for letter in range(7):
+            now, bytes_now = copied(pool), memory.copy()
+            answer = make(now, small_call(i, letter), bytes_now)
+            tallies[i].absorb(answer, Raw(now), bytes_now)
+            if i < 5:
+                go(i + 1, now, bytes_now)
+
+    go(0, Pool(2, 16, 3, r, w), Memory(32, 48, 16))
+    for i, tally in enumerate(tallies):
+        print('small %d %d %d %d' % (r, w, i + 1, tally.digest))
+
+
+# ---- random calls
+
+def after(seed, steps=1):
+    for _ in range(steps):
+        seed = seed * 48271 % 2147483647
+    return seed
+
+
+def world(b):
+    P, N = 16 + b % 9, 2 * b + 3
+    r, w = {0: (1, 1000), 1: (1000, 1), 2: (0, 0), 3: (1, 1)}.get(b % 8, (1 + b % 11, 1 + b % 13))
+    return b, P, N, r, w
+
+
+def right_call(b, P, N, letter, chance):
+    page = chance // 2 % (N if chance % 2 else N // 3 + 1)
+    start = chance // 512 % P
+    return dict(letter=letter, page=page, start=start, length=chance // 16384 % (P - start) + 1, value=chance // 524288 % 256,
+                frames=b * P, store=N * P, out=P)
+
+
+def random_call(b, P, N, seed):
+    first, second = after(seed), after(seed, 2)
+    letter = 'F' if first % 50 == 0 else 'T' if first % 50 == 1 else 'R' if first % 50 <= 25 else 'W'
+    call = right_call(b, P, N, letter, second)
+    if first // 50 % 20 == 0:
+        wrong = [('page', N), ('page', MOST), ('frames', b * P - 1), ('frames', b * P + 1), ('store', N * P - 1), ('store', N * P + 1),
+                 ('out', P - 1), ('out', P + 1), ('length', 0), ('start', P), ('start', MOST)]
+        name, value = wrong[first // 1000 % 11]
+        call[name] = value
+    return call
+
+
+# ---- changed pools
+
+def changed(old, chance, limit):
+    new = [0, 1, old + 1, max(old - 1, 0), 63, 64, 65, 255, 1000, 1001, 65535, 65536, 1000000000, 1000000001, MOST, chance // 16][chance % 16]
+    return new % limit
+
+
+def change(raw, seed):
+    """One number, one place of a list or of the pages is changed, or two places of a list trade their frames."""
+    first, second = after(seed), after(seed, 2)
+    which = first // 3
+    if first % 3 == 0:
+        name = NUMBERS[which % 12]
+        setattr(raw, name, changed(getattr(raw, name), second, MOST + 1))
+        return
+    where = which // 4
+    at = where // 2 % (raw.b + 1 if raw.b < 64 and where % 2 == 0 else 64)
+    if which % 4 == 3:
+        raw.page[at] = changed(raw.page[at], second, 65536)
+        return
+    places = getattr(raw, LISTS[which % 4])
+    if second // 16 % 4:
+        places[at] = changed(places[at], second, 256)
+        return
+    n = getattr(raw, LISTS[which % 4] + '_len')
+    if n:
+        one, two = second // 64 % n, second // 4096 % n
+        places[one], places[two] = places[two], places[one]
+
+
+def try_letters(tally, numbers, raw, chance, memory):
+    """Each call on the changed pool as it is: a broken one is refused 2, and nothing changes."""
+    for letter in 'RWFT':
+        if raw.sound():
+            pool = raw.pool()
+            answer = make(pool, right_call(*numbers, letter, chance), memory)
+            tally.absorb(answer, Raw(pool), memory)
+        else:
+            tally.absorb((2, 0), raw, memory)
+
+
+# ---- runs
+
+def runs(name, calls, broken):
+    total = Tally()
+    for b in range(1, 65):
+        b, P, N, r, w = world(b)
+        pool, memory, seed = Pool(b, P, N, r, w), Memory(b * P + 1, N * P + 1, P + 1), b
+        total.digest = 0
+        for _ in range(calls):
+            answer = make(pool, random_call(b, P, N, seed), memory)
+            if broken:
+                raw = Raw(pool)
+                change(raw, after(seed, 2))
+                try_letters(total, (b, P, N), raw, after(seed, 5), memory)
+            else:
+                total.absorb(answer, Raw(pool), memory)
+            seed = after(seed, 5)
+        print(name, b, total.digest)
+    print(name, total.told())
+
+
+if __name__ == '__main__':
+    if sys.argv[1:]:
+        sys.exit(__doc__)
+    small(0, 0)
+    small(1, 1)
+    small(3, 2)
+    runs('random', 2000, False)
+    runs('broken', 250, True)
