@@ -237,12 +237,12 @@ fn all_at_most(page: [u16; PLACES], frames: usize, top: u16) -> bool
     ok
 }
 
-// How many of the first `frames` pages are 0.
+// How many of the first `frames` pages are 0. It counts in the width of a page, which is what vector code can do.
 fn zeros_in(page: [u16; PLACES], frames: usize) -> usize
     requires { ⌜ frames ≤ places ⌝ }
     ensures { λ r. ⌜ r ≡ zerosIn (take frames page) ⌝ }
 {
-    let mut n = 0;
+    let mut n = 0u16;
     let mut i = 0;
     while i < frames {
         if page[i] == 0 {
@@ -250,7 +250,7 @@ fn zeros_in(page: [u16; PLACES], frames: usize) -> usize
         }
         i += 1;
     }
-    n
+    n as usize
 }
 
 // Whether the frames of a list, each below 64, have page 0.

@@ -48,6 +48,9 @@ loop-again c =
           (c .if1 .came),
     )
 
+cast-result : tie.Need-cast-result Inv-loop μ-loop
+cast-result c = search needs
+
 returns : tie.Need-returns Inv-loop μ-loop
 returns c =
     let a = c .before .before .args in
@@ -55,4 +58,4 @@ returns c =
     omega (arith, rw (drop-take-end (a .t1) (a .frames) (l .i) (search needs)) at (l .inv .2))
 
 pub zeros-in-spec : {M : Type 1} → statement M
-zeros-in-spec = tie.close (tie.spec Inv-loop μ-loop loop-holds mul-if1 array-read-if1 add-n add-i loop-less loop-again returns)
+zeros-in-spec = tie.close (tie.spec Inv-loop μ-loop loop-holds mul-if1 array-read-if1 add-n add-i loop-less loop-again cast-result returns)
