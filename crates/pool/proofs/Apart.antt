@@ -4,6 +4,7 @@
 --     nonzeroApart-twice, nonzeroApart-zero, nonzeroApart-new    one page more is looked at
 --     nonzeroApart-means, nonzeroApart-of    pages that stand apart, place by place
 --     knows-more, knows-new    marks that know every earlier page: one page more, and a page that they do not know
+--     allApart-more    one page more, where no page so far has met a mark
 -- Assumes nothing.
 use mathlib.Core.Path.{_≡_, refl, sym, _∙_}
 use mathlib.Core.Bool.{true, false, not, _||_, false≢true, or-true, or-false, and-true, and-false, and-eq-true-iff}
@@ -16,10 +17,11 @@ use native.Mathlib.Omega.{arith}
 use mathlib.Core.List.{List}
 use lib.ListN.{length, getD, set}
 use lib.Seq.{getD-set-same, getD-set-other}
+use lib.Bits.{bitOr, or-add-and, and-le-l, and-le-r}
 use lib.Dec.{eqb}
 use borrow.Author.Count.{below-more}
 use borrow.Author.Tests.{eq-eqb, ne-eqb, not-true}
-use Rattle.pool.specs.Parts.{hasBefore, nonzeroApart}
+use Rattle.pool.specs.Parts.{hasBefore, nonzeroApart, AllApart}
 
 -- a place before n where q stands
 pub record Before (page : List ℕ) (n q : ℕ) : Type 0 where
@@ -27,9 +29,9 @@ pub record Before (page : List ℕ) (n q : ℕ) : Type 0 where
   pub inside : index < n
   pub is : getD page index 0 ≡ q
 
--- marks know the first n pages: each has a mark at its remainder by 1,024
+-- marks know the first n pages: each has a mark at its remainder by 2,048
 abbrev pub Knows : List ℕ → List ℕ → ℕ → Type 0
-Knows marks page n = (j : ℕ) → j < n → getD marks (getD page j 0 % 1024) 0 ≢ 0
+Knows marks page n = (j : ℕ) → j < n → getD marks (getD page j 0 % 2048) 0 ≢ 0
 
 module _ (page : List ℕ) where
   -- ---- a page stands before a place
@@ -108,16 +110,34 @@ module _ (page : List ℕ) where
 
   -- ---- marks by remainders
 
-  pub knows-more : (marks : List ℕ) (i : ℕ) → length marks ≡ 1024 → Knows marks page i → Knows (set marks (getD page i 0 % 1024) 1) page (i + 1)
+  pub knows-more : (marks : List ℕ) (i : ℕ) → length marks ≡ 2048 → Knows marks page i → Knows (set marks (getD page i 0 % 2048) 1) page (i + 1)
   knows-more marks i l k =
-      let r : ℕ = getD page i 0 % 1024 in
+      let r : ℕ = getD page i 0 % 2048 in
       let here : getD (set marks r 1) r 0 ≡ 1 = getD-set-same marks r 1 0 (omega arith) in
       below-more _ i
       (λ j h z.
-      dite (ℕ-discrete (getD page j 0 % 1024) r)
+      dite (ℕ-discrete (getD page j 0 % 2048) r)
       (λ e. omega (arith, rw e at z))
       (λ d. k j h (sym (getD-set-other marks r _ 1 0 d) ∙ z)))
       (λ z. omega arith)
 
-  pub knows-new : (marks : List ℕ) (i : ℕ) → Knows marks page i → getD marks (getD page i 0 % 1024) 0 ≡ 0 → hasBefore page i (getD page i 0) ≡ false
+  pub knows-new : (marks : List ℕ) (i : ℕ) → Knows marks page i → getD marks (getD page i 0 % 2048) 0 ≡ 0 → hasBefore page i (getD page i 0) ≡ false
   knows-new marks i k z = hasBefore-nowhere i (getD page i 0) (λ j h e. k j h (rw e z))
+
+  pub allApart-more : (marks : List ℕ) (met i : ℕ) → Knows marks page i → (met ≡ 0 → AllApart page i)
+      → bitOr met (getD marks (getD page i 0 % 2048) 0) ≡ 0 → AllApart page (i + 1)
+  allApart-more marks met i k apart none f g h j e =
+      dite (decLt f i)
+      (λ l. dite (decLt g i) (λ m. apart old f g l m e) (λ n. let s : g ≡ i = omega arith in absurd (k f l (rw (e, s) new))))
+      (λ n.
+      let s : f ≡ i = omega arith in
+      dite (decLt g i) (λ m. absurd (k g m (rw (← e, s) new))) (λ o. omega arith))
+    where
+      m : ℕ
+      m = getD marks (getD page i 0 % 2048) 0
+
+      old : met ≡ 0
+      old = omega (arith, or-add-and met m, and-le-r met m)
+
+      new : m ≡ 0
+      new = omega (arith, or-add-and met m, and-le-l met m)

@@ -1,6 +1,7 @@
 -- The test of the pages is exact. Where every empty frame has page 0, one more frame may have it, so the frames with page 0 are counted against the
 -- empty ones; no other page stands twice.
 --     PagesTest, pages-test, test-pages    what the test finds out, and that right pages are those that pass it
+--     apart-pages    pages that are all different need no count of zeros
 --     empty-below    the numbers of the list of empty frames are frames
 -- Assumes nothing.
 use mathlib.Core.Path.{_≡_, refl, sym, ap, _∙_}
@@ -18,7 +19,7 @@ use Rattle.order.specs.Count.{bit, count}
 use Rattle.order.specs.Lists.{downFrom}
 use Rattle.order.proofs.Count.{bit-other, count-downFrom-below, count-downFrom-above, count-below, count-length-le}
 use Rattle.model.specs.Numbers.{if-else}
-use Rattle.pool.specs.Parts.{every, isZero, isAtMost, zerosIn, blankAll, nonzeroApart, EmptyRight, PagesRight}
+use Rattle.pool.specs.Parts.{every, isZero, isAtMost, zerosIn, blankAll, nonzeroApart, AllApart, EmptyRight, PagesRight}
 use Rattle.pool.proofs.Apart.{nonzeroApart-means, nonzeroApart-of}
 use Rattle.pool.proofs.Counting.{count-cons-le, count-more, keep, keep-in, keep-out}
 use Rattle.pool.proofs.Exact.{Exact, exact-eqb, exact-leb, exact-every, exact-places}
@@ -126,6 +127,14 @@ module _ (b N : ℕ) (E page : List ℕ) (some : 1 ≤ N) (long : b ≤ length p
                 (count-cons-le f (g ∷ E) (blanks page b) (count-cons-le g E (blanks page b) within (omega arith))
                 (omega (arith, bit-other g f (λ e. n (sym e))))),
           )
+
+  pub apart-pages : every (isAtMost (N - 1)) (take b page) ≡ true → blankAll page E ≡ true → AllApart page b → PagesRight b N E page
+  apart-pages low blank apart =
+      record {
+        blank = blank-exact .holds blank;
+        inside = λ f h c. omega (arith, low-exact .holds low f h);
+        apart = λ f g h k c d e. apart f g h k e;
+      }
 
 pub empty-below : (b : ℕ) (e : List ℕ) (en : ℕ) → en ≤ length e → EmptyRight b (take en e) → (k : ℕ) → k < en → getD e k 0 < b
 empty-below b e en l right k h =

@@ -55,6 +55,10 @@ nonzeroApart page (suc n) = nonzeroApart page n && (eqb (getD page n 0) 0 || not
 
 -- ---- what is found out
 
+-- the first n pages are all different
+abbrev pub AllApart : List ℕ → ℕ → Type 0
+AllApart page n = (f g : ℕ) → f < n → g < n → getD page f 0 ≡ getD page g 0 → f ≡ g
+
 pub record CountsRight (b target served nR nW : ℕ) : Type 0 where
   pub target-high : target ≤ b * unit
   pub served-high : served ≤ mostServed

@@ -13,7 +13,7 @@ use Rattle.pool.proofs.nonzero_apart.Statement.{statement}
 use Rattle.pool.proofs.nonzero_apart.Tie as tie
 
 abbrev Inv-loop : tie.InvT-loop
-Inv-loop frames page marks₀ ok₀ i₀ marks ok i = (i ≤ frames) × (length marks ≡ 1024) × (ok ≡ nonzeroApart page i) × Knows marks page i
+Inv-loop frames page marks₀ ok₀ i₀ marks ok i = (i ≤ frames) × (length marks ≡ 2048) × (ok ≡ nonzeroApart page i) × Knows marks page i
 
 abbrev μ-loop : tie.MeasureT-loop
 μ-loop frames page marks₀ ok₀ i₀ marks ok i = frames - i

@@ -1,12 +1,15 @@
--- `pool::pages_right` meets its contract. Right pages pass each of the four tests; where they pass, the zeros are too few for two frames that are not
--- empty to share page 0, and no other page stands twice. Assumes nothing.
+-- `pool::pages_right` meets its contract. Behind the first two tests, pages that are all different are right. Else right pages pass each of the four
+-- tests; where they pass, the zeros are too few for two frames that are not empty to share page 0, and no other page stands twice. Assumes nothing.
+use mathlib.Core.Path.{_≡_}
+use mathlib.Core.Bool.{true}
+use Prim.Native.Nat.{_-_}
 use native.Mathlib.Omega.{arith}
 use borrow.Author.Needs.{needs}
 use lib.ListN.{take}
 use lib.Seq.{length-take-le}
-use Rattle.pool.specs.Parts.{PagesRight}
+use Rattle.pool.specs.Parts.{every, isAtMost, blankAll, PagesRight}
 use Rattle.pool.proofs.Decides.{test-passed, test-refuted}
-use Rattle.pool.proofs.Pages.{PagesTest, pages-test, empty-below}
+use Rattle.pool.proofs.Pages.{PagesTest, pages-test, apart-pages, empty-below}
 use Rattle.pool.proofs.Answers.{pages-last}
 use Rattle.pool.proofs.pages_right.Statement.{statement}
 use Rattle.pool.proofs.pages_right.Tie as tie
@@ -15,6 +18,19 @@ use Rattle.pool.proofs.pages_right.Tie as tie
 tested : (c : tie.Start) → PagesRight (c .args .frames) (c .args .pages) (take (c .args .en) (c .args .e)) (c .args .page)
     → PagesTest (c .args .frames) (c .args .pages) (take (c .args .en) (c .args .e)) (c .args .page)
 tested c = pages-test (c .args .frames) (c .args .pages) (take (c .args .en) (c .args .e)) (c .args .page) (search needs) (search needs)
+
+-- ---- what is known behind the first two tests
+
+low : (c : tie.Else1)
+    → every (isAtMost (c .before .before .args .pages - 1)) (take (c .before .before .args .frames) (c .before .before .args .page)) ≡ true
+low c = test-passed (c .before .all-at-most .ensures) (c .if1 .left)
+
+blank : (c : tie.Else2)
+    → blankAll (c .before .before .before .before .args .page)
+    (take (c .before .before .before .before .args .en) (c .before .before .before .before .args .e)) ≡ true
+blank c = test-passed (c .before .all-blank .ensures) (c .if2 .left)
+
+-- ---- the needs
 
 sub-top : tie.Need-sub-top
 sub-top c = search needs
@@ -36,27 +52,38 @@ all-blank-requires c κs =
 returns-2 : tie.Need-returns-2
 returns-2 c r = test-refuted (c .before .all-blank .ensures) (c .if2 .taken) (tested (c .before .before .before .before) r .blank)
 
-add-if3 : tie.Need-add-if3
-add-if3 c = search needs
+glance-apart-requires : tie.Need-glance-apart-requires
+glance-apart-requires c κs = search needs
+
+returns-3 : tie.Need-returns-3
+returns-3 c =
+    let behind-blank = c .before .before .before in
+    let a = behind-blank .before .before .before .before .args in
+    apart-pages (a .frames) (a .pages) (take (a .en) (a .e)) (a .page) (search needs) (search needs)
+    (low (behind-blank .before .before)) (blank behind-blank)
+    (c .before .glance-apart .ensures (c .if4 .taken))
+
+add-if5 : tie.Need-add-if5
+add-if5 c = search needs
 
 zeros-in-requires : tie.Need-zeros-in-requires
 zeros-in-requires c κs = search needs
 
-returns-3 : tie.Need-returns-3
-returns-3 c r =
-    let s = c .before .before .before .before .before .before in
+returns-4 : tie.Need-returns-4
+returns-4 c r =
+    let s = c .before .before .before .before .before .before .before in
     omega (arith, tested s r .few, length-take-le (s .args .en) (s .args .e) (search needs))
 
 nonzero-apart-requires : tie.Need-nonzero-apart-requires
 nonzero-apart-requires c κs = search needs
 
-returns-4 : tie.Need-returns-4
-returns-4 c =
-    let s = c .before .before .before .before .before .before .before in
+returns-5 : tie.Need-returns-5
+returns-5 c =
+    let behind-blank = c .before .before .before .before in
+    let s = behind-blank .before .before .before .before in
     let a = s .args in
     pages-last (a .frames) (a .pages) (take (a .en) (a .e)) (a .page) (search needs) (search needs) (s .pre .1)
-    (test-passed (c .before .before .before .before .before .before .all-at-most .ensures) (c .before .before .before .before .before .if1 .left))
-    (test-passed (c .before .before .before .before .all-blank .ensures) (c .before .before .before .if2 .left))
+    (low (behind-blank .before .before)) (blank behind-blank)
     (omega (arith, length-take-le (a .en) (a .e) (search needs)))
     _
     (c .nonzero-apart .ensures)
@@ -71,8 +98,10 @@ pages-right-spec =
     returns
     all-blank-requires
     returns-2
-    add-if3
-    zeros-in-requires
+    glance-apart-requires
     returns-3
+    add-if5
+    zeros-in-requires
+    returns-4
     nonzero-apart-requires
-    returns-4)
+    returns-5)

@@ -1,0 +1,77 @@
+-- `pool::glance_apart` meets its contract. The loop's invariant: each page before place `i` has a mark at its remainder, and where none of them met a
+-- mark, they are all different. The measure is how many pages are left. Assumes nothing.
+use mathlib.Core.Path.{_≡_, refl}
+use Prim.Native.Nat.{_-_, _≤_}
+use native.Mathlib.Nat.{not-suc-le-zero}
+use native.Mathlib.Omega.{arith}
+use borrow.Author.Count.{below-none}
+use borrow.Author.Needs.{needs}
+use borrow.Author.Tests.{eqb-true}
+use lib.ListN.{length}
+use Rattle.pool.specs.Parts.{AllApart}
+use Rattle.pool.proofs.Apart.{Knows, knows-more, allApart-more}
+use Rattle.pool.proofs.glance_apart.Statement.{statement}
+use Rattle.pool.proofs.glance_apart.Tie as tie
+
+abbrev Inv-loop : tie.InvT-loop
+Inv-loop frames page marks₀ met₀ i₀ marks met i = (i ≤ frames) × (length marks ≡ 2048) × (met ≡ 0 → AllApart page i) × Knows marks page i
+
+abbrev μ-loop : tie.MeasureT-loop
+μ-loop frames page marks₀ met₀ i₀ marks met i = frames - i
+
+loop-holds : tie.Need-loop-holds Inv-loop μ-loop
+loop-holds c = (search needs, refl, (λ _ f g h. absurd (not-suc-le-zero h)), below-none _)
+
+mul-m : tie.Need-mul-m Inv-loop μ-loop
+mul-m c = search needs
+
+array-read-m : tie.Need-array-read-m Inv-loop μ-loop
+array-read-m c = search needs
+
+cast-m : tie.Need-cast-m Inv-loop μ-loop
+cast-m c = search needs
+
+array-read-met : tie.Need-array-read-met Inv-loop μ-loop
+array-read-met c = search needs
+
+array-write-marks : tie.Need-array-write-marks Inv-loop μ-loop
+array-write-marks c = search needs
+
+add-i : tie.Need-add-i Inv-loop μ-loop
+add-i c = search needs
+
+loop-less : tie.Need-loop-less Inv-loop μ-loop
+loop-less c = search needs
+
+loop-again : tie.Need-loop-again Inv-loop μ-loop
+loop-again c =
+    let page = c .before .before .args .t1 in
+    let l = c .before .loop in (
+      search needs,
+      search needs,
+      allApart-more page (l .marks) (l .met) (l .i) (l .inv .3) (l .inv .2),
+      knows-more page (l .marks) (l .i) (l .inv .1) (l .inv .3),
+    )
+
+returns : tie.Need-returns Inv-loop μ-loop
+returns c none =
+    let l = c .before .loop in
+    let e : l .i ≡ c .before .before .args .frames = omega arith in
+    rw e at (l .inv .2 (eqb-true _ _ none))
+
+pub glance-apart-spec : {M : Type 1} → statement M
+glance-apart-spec =
+    tie.close
+    (tie.spec
+    Inv-loop
+    μ-loop
+    loop-holds
+    mul-m
+    array-read-m
+    cast-m
+    array-read-met
+    array-write-marks
+    add-i
+    loop-less
+    loop-again
+    returns)
