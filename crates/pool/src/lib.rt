@@ -108,9 +108,11 @@ fn lengths_right(frames: usize, en: usize, cn: usize, dn: usize) -> bool
 
 // ---- places without meaning
 
-// A loop that goes to the end, whatever it meets, is compiled to vector code; so are the others of this form below.
-fn zeros8(list: [u8; PLACES], from: usize) -> bool
-    ensures { λ r. ⌜ r ≡ every isZero (drop from list) ⌝ }
+// A loop that goes to the end, whatever it meets, is compiled to vector code; so are the others of this form below. Each test is lent the arrays: one that
+// is handed over is copied.
+fn zeros8(list: &[u8; PLACES], from: usize) -> bool
+    requires { ⌜ length (now list) ≡ places ⌝ }
+    ensures { λ r. ⌜ r ≡ every isZero (drop from (now (list .entry))) ⌝ }
 {
     let mut ok = true;
     let mut i = from;
@@ -123,8 +125,9 @@ fn zeros8(list: [u8; PLACES], from: usize) -> bool
     ok
 }
 
-fn zeros16(list: [u16; PLACES], from: usize) -> bool
-    ensures { λ r. ⌜ r ≡ every isZero (drop from list) ⌝ }
+fn zeros16(list: &[u16; PLACES], from: usize) -> bool
+    requires { ⌜ length (now list) ≡ places ⌝ }
+    ensures { λ r. ⌜ r ≡ every isZero (drop from (now (list .entry))) ⌝ }
 {
     let mut ok = true;
     let mut i = from;
@@ -139,16 +142,17 @@ fn zeros16(list: [u16; PLACES], from: usize) -> bool
 
 // Whether the places past the ends hold 0.
 fn tails_right(
-    e: [u8; PLACES],
+    e: &[u8; PLACES],
     en: usize,
-    c: [u8; PLACES],
+    c: &[u8; PLACES],
     cn: usize,
-    d: [u8; PLACES],
+    d: &[u8; PLACES],
     dn: usize,
-    page: [u16; PLACES],
+    page: &[u16; PLACES],
     frames: usize,
 ) -> bool
-    ensures { λ r. ⌜ Decides r (TailsRight e en c cn d dn page frames) ⌝ }
+    requires { ⌜ (length (now e) ≡ places) × (length (now c) ≡ places) × (length (now d) ≡ places) × (length (now page) ≡ places) ⌝ }
+    ensures { λ r. ⌜ Decides r (TailsRight (now (e .entry)) en (now (c .entry)) cn (now (d .entry)) dn (now (page .entry)) frames) ⌝ }
 {
     if !zeros8(e, en) {
         return false;
@@ -171,9 +175,9 @@ fn wide(x: u8) -> usize
 }
 
 // Each number of a list is marked at its own place.
-fn mark(marks: &mut [u8; 256], list: [u8; PLACES], n: usize)
-    requires { ⌜ n ≤ places ⌝ }
-    ensures { λ _. ⌜ now (marks .exit) ≡ marked (take n list) (now (marks .entry)) ⌝ }
+fn mark(marks: &mut [u8; 256], list: &[u8; PLACES], n: usize)
+    requires { ⌜ (n ≤ places) × (length (now list) ≡ places) ⌝ }
+    ensures { λ _. ⌜ now (marks .exit) ≡ marked (take n (now (list .entry))) (now (marks .entry)) ⌝ }
 {
     let mut i = 0;
     while i < n {
@@ -201,16 +205,17 @@ fn all_marked(marks: &[u8; 256], frames: usize) -> bool
 
 // Whether every frame stands in exactly one list, and nothing else does: as many numbers as frames, and every frame is among them.
 fn frames_right(
-    e: [u8; PLACES],
+    e: &[u8; PLACES],
     en: usize,
-    c: [u8; PLACES],
+    c: &[u8; PLACES],
     cn: usize,
-    d: [u8; PLACES],
+    d: &[u8; PLACES],
     dn: usize,
     frames: usize,
 ) -> bool
     requires { ⌜ (frames ≤ places) × (en + (cn + dn) ≡ frames) ⌝ }
-    ensures { λ r. ⌜ Decides r (FramesRight frames (take en e) (take cn c) (take dn d)) ⌝ }
+    requires { ⌜ (length (now e) ≡ places) × (length (now c) ≡ places) × (length (now d) ≡ places) ⌝ }
+    ensures { λ r. ⌜ Decides r (FramesRight frames (take en (now (e .entry))) (take cn (now (c .entry))) (take dn (now (d .entry)))) ⌝ }
 {
     let mut marks = [0u8; 256];
     mark(&mut marks, e, en);
@@ -222,9 +227,9 @@ fn frames_right(
 // ---- pages
 
 // Whether the first `frames` pages are at most `top`.
-fn all_at_most(page: [u16; PLACES], frames: usize, top: u16) -> bool
-    requires { ⌜ frames ≤ places ⌝ }
-    ensures { λ r. ⌜ r ≡ every (isAtMost top) (take frames page) ⌝ }
+fn all_at_most(page: &[u16; PLACES], frames: usize, top: u16) -> bool
+    requires { ⌜ (frames ≤ places) × (length (now page) ≡ places) ⌝ }
+    ensures { λ r. ⌜ r ≡ every (isAtMost top) (take frames (now (page .entry))) ⌝ }
 {
     let mut ok = true;
     let mut i = 0;
@@ -238,9 +243,9 @@ fn all_at_most(page: [u16; PLACES], frames: usize, top: u16) -> bool
 }
 
 // How many of the first `frames` pages are 0. It counts in the width of a page, which is what vector code can do.
-fn zeros_in(page: [u16; PLACES], frames: usize) -> usize
-    requires { ⌜ frames ≤ places ⌝ }
-    ensures { λ r. ⌜ r ≡ zerosIn (take frames page) ⌝ }
+fn zeros_in(page: &[u16; PLACES], frames: usize) -> usize
+    requires { ⌜ (frames ≤ places) × (length (now page) ≡ places) ⌝ }
+    ensures { λ r. ⌜ r ≡ zerosIn (take frames (now (page .entry))) ⌝ }
 {
     let mut n = 0u16;
     let mut i = 0;
@@ -254,9 +259,9 @@ fn zeros_in(page: [u16; PLACES], frames: usize) -> usize
 }
 
 // Whether the frames of a list, each below 64, have page 0.
-fn all_blank(list: [u8; PLACES], n: usize, page: [u16; PLACES]) -> bool
-    requires { ⌜ (n ≤ places) × ((k : ℕ) → k < n → getD list k 0 < places) ⌝ }
-    ensures { λ r. ⌜ r ≡ blankAll page (take n list) ⌝ }
+fn all_blank(list: &[u8; PLACES], n: usize, page: &[u16; PLACES]) -> bool
+    requires { ⌜ (n ≤ places) × (length (now list) ≡ places) × ((k : ℕ) → k < n → getD (now list) k 0 < places) ⌝ }
+    ensures { λ r. ⌜ r ≡ blankAll (now (page .entry)) (take n (now (list .entry))) ⌝ }
 {
     let mut i = 0;
     while i < n {
@@ -270,9 +275,9 @@ fn all_blank(list: [u8; PLACES], n: usize, page: [u16; PLACES]) -> bool
 }
 
 // Whether the page q stands before place `end`.
-fn stands_before(page: [u16; PLACES], end: usize, q: u16) -> bool
+fn stands_before(page: &[u16; PLACES], end: usize, q: u16) -> bool
     requires { ⌜ end ≤ places ⌝ }
-    ensures { λ r. ⌜ r ≡ hasBefore page end q ⌝ }
+    ensures { λ r. ⌜ r ≡ hasBefore (now (page .entry)) end q ⌝ }
 {
     let mut found = false;
     let mut i = 0;
@@ -287,9 +292,9 @@ fn stands_before(page: [u16; PLACES], end: usize, q: u16) -> bool
 
 // Whether a glance shows that the first `frames` pages are all different: no two have the same remainder by 2,048. The loop has no branch, so a page
 // costs half of what it costs in the walk below. A no says nothing.
-fn glance_apart(page: [u16; PLACES], frames: usize) -> bool
+fn glance_apart(page: &[u16; PLACES], frames: usize) -> bool
     requires { ⌜ frames ≤ places ⌝ }
-    ensures { λ r. ⌜ (r ≡ true → AllApart page frames) ⌝ }
+    ensures { λ r. ⌜ (r ≡ true → AllApart (now (page .entry)) frames) ⌝ }
 {
     let mut marks = [0u8; 2048];
     let mut met = 0u8;
@@ -305,9 +310,9 @@ fn glance_apart(page: [u16; PLACES], frames: usize) -> bool
 
 // Whether no page but 0 stands twice among the first `frames`. A mark at a page's remainder by 2,048 says that an earlier page may be the same,
 // and only then the earlier ones are looked through.
-fn nonzero_apart(page: [u16; PLACES], frames: usize) -> bool
+fn nonzero_apart(page: &[u16; PLACES], frames: usize) -> bool
     requires { ⌜ frames ≤ places ⌝ }
-    ensures { λ r. ⌜ r ≡ nonzeroApart page frames ⌝ }
+    ensures { λ r. ⌜ r ≡ nonzeroApart (now (page .entry)) frames ⌝ }
 {
     let mut marks = [0u8; 2048];
     let mut ok = true;
@@ -331,10 +336,16 @@ fn nonzero_apart(page: [u16; PLACES], frames: usize) -> bool
 // Whether the pages are right: 0 in an empty frame; in any other below `pages`, and in no other such frame. Pages that are all different are right; two
 // empty frames share page 0, so the glance is for fewer. Else, where every empty frame has page 0, one more frame may have it, so it is enough to count
 // the zeros and to look for other pages that stand twice.
-fn pages_right(e: [u8; PLACES], en: usize, page: [u16; PLACES], frames: usize, pages: usize) -> bool
-    requires { ⌜ (frames ≤ places) × (1 ≤ pages) × (pages ≤ 65536) × (en ≤ frames) ⌝ }
-    requires { ⌜ EmptyRight frames (take en e) ⌝ }
-    ensures { λ r. ⌜ Decides r (PagesRight frames pages (take en e) page) ⌝ }
+fn pages_right(
+    e: &[u8; PLACES],
+    en: usize,
+    page: &[u16; PLACES],
+    frames: usize,
+    pages: usize,
+) -> bool
+    requires { ⌜ (frames ≤ places) × (1 ≤ pages) × (pages ≤ 65536) × (en ≤ frames) × (length (now e) ≡ places) × (length (now page) ≡ places) ⌝ }
+    requires { ⌜ EmptyRight frames (take en (now e)) ⌝ }
+    ensures { λ r. ⌜ Decides r (PagesRight frames pages (take en (now (e .entry))) (now (page .entry))) ⌝ }
 {
     let top = (pages - 1) as u16;
     if !all_at_most(page, frames, top) {
@@ -389,11 +400,11 @@ pub fn sound(pool: Pool) -> bool
     let c = pool.clean;
     let d = pool.dirty;
     let page = pool.page;
-    if !tails_right(e, en, c, cn, d, dn, page, frames) {
+    if !tails_right(&e, en, &c, cn, &d, dn, &page, frames) {
         return false;
     }
-    if !frames_right(e, en, c, cn, d, dn, frames) {
+    if !frames_right(&e, en, &c, cn, &d, dn, frames) {
         return false;
     }
-    pages_right(e, en, page, frames, pages)
+    pages_right(&e, en, &page, frames, pages)
 }

@@ -13,11 +13,11 @@ use Rattle.pool.proofs.all_at_most.Statement.{statement}
 use Rattle.pool.proofs.all_at_most.Tie as tie
 
 abbrev Inv-loop : tie.InvT-loop
-Inv-loop frames top page ok₀ i₀ ok i =
+Inv-loop page frames top ok₀ i₀ ok i =
     (i ≤ frames) × ((ok && every (isAtMost top) (drop i (take frames page))) ≡ every (isAtMost top) (take frames page))
 
 abbrev μ-loop : tie.MeasureT-loop
-μ-loop frames top page ok₀ i₀ ok i = frames - i
+μ-loop page frames top ok₀ i₀ ok i = frames - i
 
 loop-holds : tie.Need-loop-holds Inv-loop μ-loop
 loop-holds c = (search needs, refl)
@@ -25,8 +25,8 @@ loop-holds c = (search needs, refl)
 mul-if1 : tie.Need-mul-if1 Inv-loop μ-loop
 mul-if1 c = search needs
 
-array-read-if1 : tie.Need-array-read-if1 Inv-loop μ-loop
-array-read-if1 c = search needs
+element-copy-out-if1 : tie.Need-element-copy-out-if1 Inv-loop μ-loop
+element-copy-out-if1 c = search needs
 
 add-i : tie.Need-add-i Inv-loop μ-loop
 add-i c = search needs
@@ -36,9 +36,9 @@ loop-less c = search needs
 
 loop-again : tie.Need-loop-again Inv-loop μ-loop
 loop-again c =
-    let a = c .before .before .before .args in
-    let l = c .before .before .loop in
-    let e = drop-take-next (a .t1) (a .frames) (l .i) (search needs) (search needs) in (
+    let a = c .before .before .before .before .args in
+    let l = c .before .before .before .loop in
+    let e = drop-take-next (a .page .now) (a .frames) (l .i) (search needs) (search needs) in (
       search needs,
       ⊎-elim
           (λ w. rw (w .1) (every-spoilt (isAtMost (a .top)) (l .ok) _ e (lt-leb _ _ (w .0 .taken)) (l .inv .1)))
@@ -50,7 +50,7 @@ returns : tie.Need-returns Inv-loop μ-loop
 returns c =
     let a = c .before .before .args in
     let l = c .before .loop in
-    every-end (isAtMost (a .top)) (l .ok) _ (drop-take-end (a .t1) (a .frames) (l .i) (search needs)) (l .inv .1)
+    every-end (isAtMost (a .top)) (l .ok) _ (drop-take-end (a .page .now) (a .frames) (l .i) (search needs)) (l .inv .1)
 
 pub all-at-most-spec : {M : Type 1} → statement M
-all-at-most-spec = tie.close (tie.spec Inv-loop μ-loop loop-holds mul-if1 array-read-if1 add-i loop-less loop-again returns)
+all-at-most-spec = tie.close (tie.spec Inv-loop μ-loop loop-holds mul-if1 element-copy-out-if1 add-i loop-less loop-again returns)

@@ -19,31 +19,31 @@ abbrev blank : List ℕ → ℕ → Bool
 blank page f = eqb (getD page f 0) 0
 
 abbrev Inv-loop : tie.InvT-loop
-Inv-loop n list page i₀ i = (i ≤ n) × (blankAll page (drop i (take n list)) ≡ blankAll page (take n list))
+Inv-loop list n page i₀ i = (i ≤ n) × (blankAll page (drop i (take n list)) ≡ blankAll page (take n list))
 
 abbrev μ-loop : tie.MeasureT-loop
-μ-loop n list page i₀ i = n - i
+μ-loop list n page i₀ i = n - i
 
 loop-holds : tie.Need-loop-holds Inv-loop μ-loop
 loop-holds c = (search needs, refl)
 
-array-read-f : tie.Need-array-read-f Inv-loop μ-loop
-array-read-f c = search needs
+element-copy-out-f : tie.Need-element-copy-out-f Inv-loop μ-loop
+element-copy-out-f c = search needs
 
 cast-f : tie.Need-cast-f Inv-loop μ-loop
-cast-f c = search needs
+cast-f c = omega (arith, c .before .before .before .pre .2 (c .before .before .loop .i) (search needs))
 
 mul-if1 : tie.Need-mul-if1 Inv-loop μ-loop
-mul-if1 c = omega (arith, c .before .before .pre .1 (c .before .loop .i) (search needs))
+mul-if1 c = omega (arith, c .before .before .before .pre .2 (c .before .before .loop .i) (search needs))
 
-array-read-if1 : tie.Need-array-read-if1 Inv-loop μ-loop
-array-read-if1 c = c .before .before .pre .1 (c .before .loop .i) (search needs)
+element-copy-out-if1 : tie.Need-element-copy-out-if1 Inv-loop μ-loop
+element-copy-out-if1 c = c .before .before .before .pre .2 (c .before .before .loop .i) (search needs)
 
 returns : tie.Need-returns Inv-loop μ-loop
 returns c =
-    let a = c .before .before .before .args in
-    let l = c .before .before .loop in
-    every-spoilt (blank (a .t3)) true _ (drop-take-next (a .t1) (a .n) (l .i) (search needs) (search needs)) (ne-eqb _ 0 (c .if1 .taken)) (l .inv .1)
+    let a = c .before .before .before .before .before .args in
+    let l = c .before .before .before .before .loop in
+    every-spoilt (blank (a .page .now)) true _ (drop-take-next (a .list .now) (a .n) (l .i) (search needs) (search needs)) (ne-eqb _ 0 (c .if1 .taken)) (l .inv .1)
 
 add-i : tie.Need-add-i Inv-loop μ-loop
 add-i c = search needs
@@ -53,17 +53,17 @@ loop-less c = search needs
 
 loop-again : tie.Need-loop-again Inv-loop μ-loop
 loop-again c =
-    let a = c .before .before .before .args in
-    let l = c .before .before .loop in (
+    let a = c .before .before .before .before .before .args in
+    let l = c .before .before .before .before .loop in (
       search needs,
-      every-kept (blank (a .t3)) true _ (drop-take-next (a .t1) (a .n) (l .i) (search needs) (search needs)) (eq-eqb _ 0 (c .if1 .left)) (l .inv .1),
+      every-kept (blank (a .page .now)) true _ (drop-take-next (a .list .now) (a .n) (l .i) (search needs) (search needs)) (eq-eqb _ 0 (c .if1 .left)) (l .inv .1),
     )
 
 returns-2 : tie.Need-returns-2 Inv-loop μ-loop
 returns-2 c =
     let a = c .before .before .args in
     let l = c .before .loop in
-    every-end (blank (a .t3)) true _ (drop-take-end (a .t1) (a .n) (l .i) (search needs)) (l .inv .1)
+    every-end (blank (a .page .now)) true _ (drop-take-end (a .list .now) (a .n) (l .i) (search needs)) (l .inv .1)
 
 pub all-blank-spec : {M : Type 1} → statement M
 all-blank-spec =
@@ -72,10 +72,10 @@ all-blank-spec =
     Inv-loop
     μ-loop
     loop-holds
-    array-read-f
+    element-copy-out-f
     cast-f
     mul-if1
-    array-read-if1
+    element-copy-out-if1
     returns
     add-i
     loop-less

@@ -31,8 +31,8 @@ all-marked-requires c κs =
 returns : tie.Need-returns
 returns c =
     let a = c .before .before .before .before .before .before .before .before .args in
-    frames-decides (a .frames) (take (a .en) (a .e)) (take (a .cn) (a .c)) (take (a .dn) (a .d)) (search needs)
-    (omega (arith, length-take-le (a .en) (a .e) (search needs), length-take-le (a .cn) (a .c) (search needs), length-take-le (a .dn) (a .d) (search needs)))
+    frames-decides (a .frames) (take (a .en) (a .e .now)) (take (a .cn) (a .c .now)) (take (a .dn) (a .d .now)) (search needs)
+    (omega (arith, length-take-le (a .en) (a .e .now) (search needs), length-take-le (a .cn) (a .c .now) (search needs), length-take-le (a .dn) (a .d .now) (search needs)))
     _ _ _
     (c .before .before .before .before .before .before .mark .ensures)
     (c .before .before .before .before .mark2 .ensures)

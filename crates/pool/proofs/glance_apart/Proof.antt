@@ -14,10 +14,10 @@ use Rattle.pool.proofs.glance_apart.Statement.{statement}
 use Rattle.pool.proofs.glance_apart.Tie as tie
 
 abbrev Inv-loop : tie.InvT-loop
-Inv-loop frames page marks₀ met₀ i₀ marks met i = (i ≤ frames) × (length marks ≡ 2048) × (met ≡ 0 → AllApart page i) × Knows marks page i
+Inv-loop page frames marks₀ met₀ i₀ marks met i = (i ≤ frames) × (length marks ≡ 2048) × (met ≡ 0 → AllApart page i) × Knows marks page i
 
 abbrev μ-loop : tie.MeasureT-loop
-μ-loop frames page marks₀ met₀ i₀ marks met i = frames - i
+μ-loop page frames marks₀ met₀ i₀ marks met i = frames - i
 
 loop-holds : tie.Need-loop-holds Inv-loop μ-loop
 loop-holds c = (search needs, refl, (λ _ f g h. absurd (not-suc-le-zero h)), below-none _)
@@ -25,8 +25,8 @@ loop-holds c = (search needs, refl, (λ _ f g h. absurd (not-suc-le-zero h)), be
 mul-m : tie.Need-mul-m Inv-loop μ-loop
 mul-m c = search needs
 
-array-read-m : tie.Need-array-read-m Inv-loop μ-loop
-array-read-m c = search needs
+element-copy-out-m : tie.Need-element-copy-out-m Inv-loop μ-loop
+element-copy-out-m c = search needs
 
 cast-m : tie.Need-cast-m Inv-loop μ-loop
 cast-m c = search needs
@@ -45,8 +45,8 @@ loop-less c = search needs
 
 loop-again : tie.Need-loop-again Inv-loop μ-loop
 loop-again c =
-    let page = c .before .before .args .t1 in
-    let l = c .before .loop in (
+    let page = c .before .before .before .args .page .now in
+    let l = c .before .before .loop in (
       search needs,
       search needs,
       allApart-more page (l .marks) (l .met) (l .i) (l .inv .3) (l .inv .2),
@@ -67,7 +67,7 @@ glance-apart-spec =
     μ-loop
     loop-holds
     mul-m
-    array-read-m
+    element-copy-out-m
     cast-m
     array-read-met
     array-write-marks

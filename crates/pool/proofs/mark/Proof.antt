@@ -10,16 +10,16 @@ use Rattle.pool.proofs.mark.Statement.{statement}
 use Rattle.pool.proofs.mark.Tie as tie
 
 abbrev Inv-loop : tie.InvT-loop
-Inv-loop marks₀ n list i₀ marks i = (i ≤ n) × (marked (drop i (take n list)) marks ≡ marked (take n list) marks₀)
+Inv-loop marks₀ list n i₀ marks i = (i ≤ n) × (marked (drop i (take n list)) marks ≡ marked (take n list) marks₀)
 
 abbrev μ-loop : tie.MeasureT-loop
-μ-loop marks₀ n list i₀ marks i = n - i
+μ-loop marks₀ list n i₀ marks i = n - i
 
 loop-holds : tie.Need-loop-holds Inv-loop μ-loop
 loop-holds c = (search needs, refl)
 
-array-read-wide : tie.Need-array-read-wide Inv-loop μ-loop
-array-read-wide c = search needs
+element-copy-out-wide : tie.Need-element-copy-out-wide Inv-loop μ-loop
+element-copy-out-wide c = search needs
 
 wide-requires : tie.Need-wide-requires Inv-loop μ-loop
 wide-requires c κs = search needs
@@ -35,15 +35,15 @@ loop-less c = search needs
 
 loop-again : tie.Need-loop-again Inv-loop μ-loop
 loop-again c =
-    let a = c .before .before .before .args in
-    let l = c .before .before .loop in
-    (search needs, rw (c .wide .ensures .0) (rw (drop-take-next (a .t2) (a .n) (l .i) (search needs) (search needs)) at (l .inv .1)))
+    let a = c .before .before .before .before .args in
+    let l = c .before .before .before .loop in
+    (search needs, rw (c .wide .ensures .0) (rw (drop-take-next (a .list .now) (a .n) (l .i) (search needs) (search needs)) at (l .inv .1)))
 
 returns : tie.Need-returns Inv-loop μ-loop
 returns c =
     let a = c .before .before .args in
     let l = c .before .loop in
-    rw (drop-take-end (a .t2) (a .n) (l .i) (search needs)) at (l .inv .1)
+    rw (drop-take-end (a .list .now) (a .n) (l .i) (search needs)) at (l .inv .1)
 
 pub mark-spec : {M : Type 1} → statement M
 mark-spec =
@@ -52,7 +52,7 @@ mark-spec =
     Inv-loop
     μ-loop
     loop-holds
-    array-read-wide
+    element-copy-out-wide
     wide-requires
     element-write-marks
     add-i

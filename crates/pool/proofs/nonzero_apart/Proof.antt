@@ -13,10 +13,10 @@ use Rattle.pool.proofs.nonzero_apart.Statement.{statement}
 use Rattle.pool.proofs.nonzero_apart.Tie as tie
 
 abbrev Inv-loop : tie.InvT-loop
-Inv-loop frames page marks₀ ok₀ i₀ marks ok i = (i ≤ frames) × (length marks ≡ 2048) × (ok ≡ nonzeroApart page i) × Knows marks page i
+Inv-loop page frames marks₀ ok₀ i₀ marks ok i = (i ≤ frames) × (length marks ≡ 2048) × (ok ≡ nonzeroApart page i) × Knows marks page i
 
 abbrev μ-loop : tie.MeasureT-loop
-μ-loop frames page marks₀ ok₀ i₀ marks ok i = frames - i
+μ-loop page frames marks₀ ok₀ i₀ marks ok i = frames - i
 
 loop-holds : tie.Need-loop-holds Inv-loop μ-loop
 loop-holds c = (search needs, refl, refl, below-none _)
@@ -24,8 +24,8 @@ loop-holds c = (search needs, refl, refl, below-none _)
 mul-q : tie.Need-mul-q Inv-loop μ-loop
 mul-q c = search needs
 
-array-read-q : tie.Need-array-read-q Inv-loop μ-loop
-array-read-q c = search needs
+element-copy-out-q : tie.Need-element-copy-out-q Inv-loop μ-loop
+element-copy-out-q c = search needs
 
 cast-k : tie.Need-cast-k Inv-loop μ-loop
 cast-k c = search needs
@@ -47,8 +47,8 @@ loop-less c = search needs
 
 loop-again : tie.Need-loop-again Inv-loop μ-loop
 loop-again c =
-    let page = c .before .before .before .args .t1 in
-    let l = c .before .before .loop in (
+    let page = c .before .before .before .before .args .page .now in
+    let l = c .before .before .before .loop in (
       search needs,
       search needs,
       ⊎-elim
@@ -76,7 +76,7 @@ nonzero-apart-spec =
     μ-loop
     loop-holds
     mul-q
-    array-read-q
+    element-copy-out-q
     cast-k
     array-read-if1
     stands-before-requires

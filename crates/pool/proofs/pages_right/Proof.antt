@@ -15,19 +15,19 @@ use Rattle.pool.proofs.pages_right.Statement.{statement}
 use Rattle.pool.proofs.pages_right.Tie as tie
 
 -- right pages pass
-tested : (c : tie.Start) → PagesRight (c .args .frames) (c .args .pages) (take (c .args .en) (c .args .e)) (c .args .page)
-    → PagesTest (c .args .frames) (c .args .pages) (take (c .args .en) (c .args .e)) (c .args .page)
-tested c = pages-test (c .args .frames) (c .args .pages) (take (c .args .en) (c .args .e)) (c .args .page) (search needs) (search needs)
+tested : (c : tie.Start) → PagesRight (c .args .frames) (c .args .pages) (take (c .args .en) (c .args .e .now)) (c .args .page .now)
+    → PagesTest (c .args .frames) (c .args .pages) (take (c .args .en) (c .args .e .now)) (c .args .page .now)
+tested c = pages-test (c .args .frames) (c .args .pages) (take (c .args .en) (c .args .e .now)) (c .args .page .now) (search needs) (search needs)
 
 -- ---- what is known behind the first two tests
 
 low : (c : tie.Else1)
-    → every (isAtMost (c .before .before .args .pages - 1)) (take (c .before .before .args .frames) (c .before .before .args .page)) ≡ true
+    → every (isAtMost (c .before .before .args .pages - 1)) (take (c .before .before .args .frames) (c .before .before .args .page .now)) ≡ true
 low c = test-passed (c .before .all-at-most .ensures) (c .if1 .left)
 
 blank : (c : tie.Else2)
-    → blankAll (c .before .before .before .before .args .page)
-    (take (c .before .before .before .before .args .en) (c .before .before .before .before .args .e)) ≡ true
+    → blankAll (c .before .before .before .before .args .page .now)
+    (take (c .before .before .before .before .args .en) (c .before .before .before .before .args .e .now)) ≡ true
 blank c = test-passed (c .before .all-blank .ensures) (c .if2 .left)
 
 -- ---- the needs
@@ -47,7 +47,7 @@ returns c r = test-refuted (c .before .all-at-most .ensures) (c .if1 .taken) (te
 all-blank-requires : tie.Need-all-blank-requires
 all-blank-requires c κs =
     let a = c .before .before .args in
-    (search needs, λ k h. omega (arith, empty-below (a .frames) (a .e) (a .en) (search needs) (c .before .before .pre .1) k h))
+    (search needs, search needs, λ k h. omega (arith, empty-below (a .frames) (a .e .now) (a .en) (search needs) (c .before .before .pre .1) k h))
 
 returns-2 : tie.Need-returns-2
 returns-2 c r = test-refuted (c .before .all-blank .ensures) (c .if2 .taken) (tested (c .before .before .before .before) r .blank)
@@ -59,7 +59,7 @@ returns-3 : tie.Need-returns-3
 returns-3 c =
     let behind-blank = c .before .before .before in
     let a = behind-blank .before .before .before .before .args in
-    apart-pages (a .frames) (a .pages) (take (a .en) (a .e)) (a .page) (search needs) (search needs)
+    apart-pages (a .frames) (a .pages) (take (a .en) (a .e .now)) (a .page .now) (search needs) (search needs)
     (low (behind-blank .before .before)) (blank behind-blank)
     (c .before .glance-apart .ensures (c .if4 .taken))
 
@@ -72,7 +72,7 @@ zeros-in-requires c κs = search needs
 returns-4 : tie.Need-returns-4
 returns-4 c r =
     let s = c .before .before .before .before .before .before .before in
-    omega (arith, tested s r .few, length-take-le (s .args .en) (s .args .e) (search needs))
+    omega (arith, tested s r .few, length-take-le (s .args .en) (s .args .e .now) (search needs))
 
 nonzero-apart-requires : tie.Need-nonzero-apart-requires
 nonzero-apart-requires c κs = search needs
@@ -82,9 +82,9 @@ returns-5 c =
     let behind-blank = c .before .before .before .before in
     let s = behind-blank .before .before .before .before in
     let a = s .args in
-    pages-last (a .frames) (a .pages) (take (a .en) (a .e)) (a .page) (search needs) (search needs) (s .pre .1)
+    pages-last (a .frames) (a .pages) (take (a .en) (a .e .now)) (a .page .now) (search needs) (search needs) (s .pre .1)
     (low (behind-blank .before .before)) (blank behind-blank)
-    (omega (arith, length-take-le (a .en) (a .e) (search needs)))
+    (omega (arith, length-take-le (a .en) (a .e .now) (search needs)))
     _
     (c .nonzero-apart .ensures)
 

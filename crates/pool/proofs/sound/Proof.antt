@@ -11,6 +11,17 @@ use Rattle.pool.proofs.Answers.{sound-refused, sound-last}
 use Rattle.pool.proofs.sound.Statement.{statement}
 use Rattle.pool.proofs.sound.Tie as tie
 
+-- ---- places in the code: behind each test, the place behind the one before it
+
+abbrev start : tie.Else3 → tie.Start
+start c = c .before .before .before .before .before .before
+
+abbrev behind-lengths : tie.Else4 → tie.Else3
+behind-lengths c = c .before .before .before .before .before .before .before .before .before .before
+
+abbrev behind-tails : tie.Else5 → tie.Else4
+behind-tails c = c .before .before .before .before .before
+
 -- ---- what is known from the start, and behind each test
 
 lengths-start : (c : tie.Start)
@@ -28,13 +39,13 @@ limits c =
 counts : (c : tie.Else2) → CountsIn (c .before .before .before .before .args .pool)
 counts c = let r = c .before .counts-right in decides-passed (r .result) (r .ensures) (c .if2 .left)
 
-lengths : (c : tie.Else3) → LengthsIn (c .before .before .before .before .before .before .args .pool)
+lengths : (c : tie.Else3) → LengthsIn (start c .args .pool)
 lengths c = let r = c .before .lengths-right in decides-passed (r .result) (r .ensures) (c .if3 .left)
 
-tails : (c : tie.Else4) → TailsIn (c .before .before .before .before .before .before .before .before .before .before .before .before .args .pool)
+tails : (c : tie.Else4) → TailsIn (start (behind-lengths c) .args .pool)
 tails c = let r = c .before .tails-right in decides-passed (r .result) (r .ensures) (c .if4 .left)
 
-frames : (c : tie.Else5) → FramesIn (c .before .before .before .before .before .before .before .before .before .before .before .before .before .before .args .pool)
+frames : (c : tie.Else5) → FramesIn (start (behind-lengths (behind-tails c)) .args .pool)
 frames c = let r = c .before .frames-right in decides-passed (r .result) (r .ensures) (c .if5 .left)
 
 -- ---- the needs
@@ -64,7 +75,8 @@ returns-3 c =
     sound-refused _ (λ p. decides-refuted (r .result) (r .ensures) (c .if3 .taken) (p .lengths))
 
 tails-right-requires : tie.Need-tails-right-requires
-tails-right-requires c κs = search needs
+tails-right-requires c κs =
+    lengths-start (start (c .before .before .before .before .before .before .before .before))
 
 returns-4 : tie.Need-returns-4
 returns-4 c =
@@ -73,9 +85,9 @@ returns-4 c =
 
 frames-right-requires : tie.Need-frames-right-requires
 frames-right-requires c κs =
-    let behind-lengths = c .before .before .before .before .before .before in
-    let behind-limits = behind-lengths .before .before .before .before in
-    (limits behind-limits .b-high, lengths behind-lengths)
+    let at = behind-lengths (c .before .before .before) in
+    let n = lengths-start (start at) in
+    ((limits (at .before .before .before .before) .b-high, lengths at), (n .0, n .1, n .2))
 
 returns-5 : tie.Need-returns-5
 returns-5 c =
@@ -84,21 +96,19 @@ returns-5 c =
 
 pages-right-requires : tie.Need-pages-right-requires
 pages-right-requires c κs =
-    let behind-lengths = c .before .before .before .before .before .before .before .before in
-    let behind-limits = behind-lengths .before .before .before .before in
-    let l = limits behind-limits in
-    ((l .b-high, l .N-low, l .N-high, omega (arith, lengths behind-lengths)), frames-empty (frames c))
+    let behind-frames = c .before .before in
+    let at = behind-lengths (behind-tails behind-frames) in
+    let l = limits (at .before .before .before .before) in
+    let n = lengths-start (start at) in
+    ((l .b-high, l .N-low, l .N-high, omega (arith, lengths at), n .0, n .3), frames-empty (frames behind-frames))
 
 returns-6 : tie.Need-returns-6
 returns-6 c =
-    let behind-frames = c .before in
-    let behind-tails = behind-frames .before .before in
-    let behind-lengths = behind-tails .before .before .before .before .before .before in
-    let behind-counts = behind-lengths .before .before in
-    let behind-limits = behind-counts .before .before in
-    let n = lengths-start (behind-limits .before .before) in
+    let behind-frames = c .before .before .before in
+    let at = behind-lengths (behind-tails behind-frames) in
+    let n = lengths-start (start at) in
     sound-last _ (n .0) (n .1) (n .2) (n .3)
-    (limits behind-limits) (counts behind-counts) (lengths behind-lengths) (tails behind-tails) (frames behind-frames)
+    (limits (at .before .before .before .before)) (counts (at .before .before)) (lengths at) (tails (behind-tails behind-frames)) (frames behind-frames)
     _
     (c .pages-right .ensures)
 

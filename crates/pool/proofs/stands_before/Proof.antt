@@ -11,10 +11,10 @@ use Rattle.pool.proofs.stands_before.Statement.{statement}
 use Rattle.pool.proofs.stands_before.Tie as tie
 
 abbrev Inv-loop : tie.InvT-loop
-Inv-loop end q page found₀ i₀ found i = (i ≤ end) × (found ≡ hasBefore page i q)
+Inv-loop page end q found₀ i₀ found i = (i ≤ end) × (found ≡ hasBefore page i q)
 
 abbrev μ-loop : tie.MeasureT-loop
-μ-loop end q page found₀ i₀ found i = end - i
+μ-loop page end q found₀ i₀ found i = end - i
 
 loop-holds : tie.Need-loop-holds Inv-loop μ-loop
 loop-holds c = (search needs, refl)
@@ -22,8 +22,8 @@ loop-holds c = (search needs, refl)
 mul-if1 : tie.Need-mul-if1 Inv-loop μ-loop
 mul-if1 c = search needs
 
-array-read-if1 : tie.Need-array-read-if1 Inv-loop μ-loop
-array-read-if1 c = search needs
+element-copy-out-if1 : tie.Need-element-copy-out-if1 Inv-loop μ-loop
+element-copy-out-if1 c = search needs
 
 add-i : tie.Need-add-i Inv-loop μ-loop
 add-i c = search needs
@@ -33,12 +33,12 @@ loop-less c = search needs
 
 loop-again : tie.Need-loop-again Inv-loop μ-loop
 loop-again c =
-    let a = c .before .before .before .args in
-    let l = c .before .before .loop in (
+    let a = c .before .before .before .before .args in
+    let l = c .before .before .before .loop in (
       search needs,
       ⊎-elim
-          (λ w. w .1 ∙ sym (hasBefore-hit (a .t1) (l .i) (a .q) (w .0 .taken)))
-          (λ w. w .1 ∙ l .inv .1 ∙ sym (hasBefore-miss (a .t1) (l .i) (a .q) (w .0 .left)))
+          (λ w. w .1 ∙ sym (hasBefore-hit (a .page .now) (l .i) (a .q) (w .0 .taken)))
+          (λ w. w .1 ∙ l .inv .1 ∙ sym (hasBefore-miss (a .page .now) (l .i) (a .q) (w .0 .left)))
           (c .if1 .came),
     )
 
@@ -49,4 +49,4 @@ returns c =
     rw e at (l .inv .1)
 
 pub stands-before-spec : {M : Type 1} → statement M
-stands-before-spec = tie.close (tie.spec Inv-loop μ-loop loop-holds mul-if1 array-read-if1 add-i loop-less loop-again returns)
+stands-before-spec = tie.close (tie.spec Inv-loop μ-loop loop-holds mul-if1 element-copy-out-if1 add-i loop-less loop-again returns)

@@ -29,7 +29,7 @@ zeros16-requires c κs = search needs
 returns-4 : tie.Need-returns-4
 returns-4 c =
     let a = c .before .before .before .before .before .before .before .args in
-    tails-last (a .e) (a .en) (a .c) (a .cn) (a .d) (a .dn) (a .page) (a .frames) _
+    tails-last (a .e .now) (a .en) (a .c .now) (a .cn) (a .d .now) (a .dn) (a .page .now) (a .frames) _
     (test-passed (c .before .before .before .before .before .before .zeros8 .ensures) (c .before .before .before .before .before .if1 .left))
     (test-passed (c .before .before .before .before .zeros82 .ensures) (c .before .before .before .if2 .left))
     (test-passed (c .before .before .zeros83 .ensures) (c .before .if3 .left))

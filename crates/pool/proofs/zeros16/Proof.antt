@@ -14,10 +14,10 @@ use Rattle.pool.proofs.zeros16.Statement.{statement}
 use Rattle.pool.proofs.zeros16.Tie as tie
 
 abbrev Inv-loop : tie.InvT-loop
-Inv-loop from list ok₀ i₀ ok i = (ok && every isZero (drop i list)) ≡ every isZero (drop from list)
+Inv-loop list from ok₀ i₀ ok i = (ok && every isZero (drop i list)) ≡ every isZero (drop from list)
 
 abbrev μ-loop : tie.MeasureT-loop
-μ-loop from list ok₀ i₀ ok i = places - i
+μ-loop list from ok₀ i₀ ok i = places - i
 
 loop-holds : tie.Need-loop-holds Inv-loop μ-loop
 loop-holds c = refl
@@ -25,8 +25,8 @@ loop-holds c = refl
 mul-if1 : tie.Need-mul-if1 Inv-loop μ-loop
 mul-if1 c = search needs
 
-array-read-if1 : tie.Need-array-read-if1 Inv-loop μ-loop
-array-read-if1 c = search needs
+element-copy-out-if1 : tie.Need-element-copy-out-if1 Inv-loop μ-loop
+element-copy-out-if1 c = search needs
 
 add-i : tie.Need-add-i Inv-loop μ-loop
 add-i c = search needs
@@ -36,8 +36,8 @@ loop-less c = search needs
 
 loop-again : tie.Need-loop-again Inv-loop μ-loop
 loop-again c =
-    let list = c .before .before .before .args .t1 in
-    let l = c .before .before .loop in
+    let list = c .before .before .before .before .args .list .now in
+    let l = c .before .before .before .loop in
     let h : l .i < length list = search needs in
     let e = drop-next list (l .i) h in
     ⊎-elim
@@ -47,10 +47,10 @@ loop-again c =
 
 returns : tie.Need-returns Inv-loop μ-loop
 returns c =
-    let list = c .before .before .args .t1 in
+    let list = c .before .before .args .list .now in
     let l = c .before .loop in
     let h : length list ≤ l .i = search needs in
     every-end isZero (l .ok) _ (drop-of-length-le list h) (l .inv)
 
 pub zeros16-spec : {M : Type 1} → statement M
-zeros16-spec = tie.close (tie.spec Inv-loop μ-loop loop-holds mul-if1 array-read-if1 add-i loop-less loop-again returns)
+zeros16-spec = tie.close (tie.spec Inv-loop μ-loop loop-holds mul-if1 element-copy-out-if1 add-i loop-less loop-again returns)

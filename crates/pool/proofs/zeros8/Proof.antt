@@ -14,16 +14,16 @@ use Rattle.pool.proofs.zeros8.Statement.{statement}
 use Rattle.pool.proofs.zeros8.Tie as tie
 
 abbrev Inv-loop : tie.InvT-loop
-Inv-loop from list ok₀ i₀ ok i = (ok && every isZero (drop i list)) ≡ every isZero (drop from list)
+Inv-loop list from ok₀ i₀ ok i = (ok && every isZero (drop i list)) ≡ every isZero (drop from list)
 
 abbrev μ-loop : tie.MeasureT-loop
-μ-loop from list ok₀ i₀ ok i = places - i
+μ-loop list from ok₀ i₀ ok i = places - i
 
 loop-holds : tie.Need-loop-holds Inv-loop μ-loop
 loop-holds c = refl
 
-array-read-if1 : tie.Need-array-read-if1 Inv-loop μ-loop
-array-read-if1 c = search needs
+element-copy-out-if1 : tie.Need-element-copy-out-if1 Inv-loop μ-loop
+element-copy-out-if1 c = search needs
 
 add-i : tie.Need-add-i Inv-loop μ-loop
 add-i c = search needs
@@ -33,8 +33,8 @@ loop-less c = search needs
 
 loop-again : tie.Need-loop-again Inv-loop μ-loop
 loop-again c =
-    let list = c .before .before .before .args .t1 in
-    let l = c .before .before .loop in
+    let list = c .before .before .before .before .args .list .now in
+    let l = c .before .before .before .loop in
     let h : l .i < length list = search needs in
     let e = drop-next list (l .i) h in
     ⊎-elim
@@ -44,10 +44,10 @@ loop-again c =
 
 returns : tie.Need-returns Inv-loop μ-loop
 returns c =
-    let list = c .before .before .args .t1 in
+    let list = c .before .before .args .list .now in
     let l = c .before .loop in
     let h : length list ≤ l .i = search needs in
     every-end isZero (l .ok) _ (drop-of-length-le list h) (l .inv)
 
 pub zeros8-spec : {M : Type 1} → statement M
-zeros8-spec = tie.close (tie.spec Inv-loop μ-loop loop-holds array-read-if1 add-i loop-less loop-again returns)
+zeros8-spec = tie.close (tie.spec Inv-loop μ-loop loop-holds element-copy-out-if1 add-i loop-less loop-again returns)

@@ -12,10 +12,10 @@ use Rattle.pool.proofs.zeros_in.Statement.{statement}
 use Rattle.pool.proofs.zeros_in.Tie as tie
 
 abbrev Inv-loop : tie.InvT-loop
-Inv-loop frames page n₀ i₀ n i = (i ≤ frames) × (n ≤ i) × (n + zerosIn (drop i (take frames page)) ≡ zerosIn (take frames page))
+Inv-loop page frames n₀ i₀ n i = (i ≤ frames) × (n ≤ i) × (n + zerosIn (drop i (take frames page)) ≡ zerosIn (take frames page))
 
 abbrev μ-loop : tie.MeasureT-loop
-μ-loop frames page n₀ i₀ n i = frames - i
+μ-loop page frames n₀ i₀ n i = frames - i
 
 loop-holds : tie.Need-loop-holds Inv-loop μ-loop
 loop-holds c = (search needs, search needs, omega arith)
@@ -23,8 +23,8 @@ loop-holds c = (search needs, search needs, omega arith)
 mul-if1 : tie.Need-mul-if1 Inv-loop μ-loop
 mul-if1 c = search needs
 
-array-read-if1 : tie.Need-array-read-if1 Inv-loop μ-loop
-array-read-if1 c = search needs
+element-copy-out-if1 : tie.Need-element-copy-out-if1 Inv-loop μ-loop
+element-copy-out-if1 c = search needs
 
 add-n : tie.Need-add-n Inv-loop μ-loop
 add-n c = search needs
@@ -37,9 +37,9 @@ loop-less c = search needs
 
 loop-again : tie.Need-loop-again Inv-loop μ-loop
 loop-again c =
-    let a = c .before .before .before .args in
-    let l = c .before .before .loop in
-    let e = drop-take-next (a .t1) (a .frames) (l .i) (search needs) (search needs) in (
+    let a = c .before .before .before .before .args in
+    let l = c .before .before .before .loop in
+    let e = drop-take-next (a .page .now) (a .frames) (l .i) (search needs) (search needs) in (
       search needs,
       ⊎-elim (λ w. omega arith) (λ w. omega arith) (c .if1 .came),
       ⊎-elim
@@ -55,7 +55,7 @@ returns : tie.Need-returns Inv-loop μ-loop
 returns c =
     let a = c .before .before .args in
     let l = c .before .loop in
-    omega (arith, rw (drop-take-end (a .t1) (a .frames) (l .i) (search needs)) at (l .inv .2))
+    omega (arith, rw (drop-take-end (a .page .now) (a .frames) (l .i) (search needs)) at (l .inv .2))
 
 pub zeros-in-spec : {M : Type 1} → statement M
-zeros-in-spec = tie.close (tie.spec Inv-loop μ-loop loop-holds mul-if1 array-read-if1 add-n add-i loop-less loop-again cast-result returns)
+zeros-in-spec = tie.close (tie.spec Inv-loop μ-loop loop-holds mul-if1 element-copy-out-if1 add-n add-i loop-less loop-again cast-result returns)
