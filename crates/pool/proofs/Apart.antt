@@ -3,7 +3,7 @@
 --     hasBefore-means, hasBefore-none, hasBefore-nowhere    what stands before a place, and what does not
 --     nonzeroApart-twice, nonzeroApart-zero, nonzeroApart-new    one page more is looked at
 --     nonzeroApart-means, nonzeroApart-of    pages that stand apart, place by place
---     knows-more, knows-new    marks that know every earlier page: one page more, and a page that they do not know
+--     knows-more, knows-met, knows-new    marks that know every earlier page: one page more that leaves a mark or meets one, and a page that they do not know
 --     allApart-more    one page more, where no page so far has met a mark
 -- Assumes nothing.
 use mathlib.Core.Path.{_≡_, refl, sym, _∙_}
@@ -15,7 +15,7 @@ use native.Mathlib.Decide.{decLt, ℕ-discrete}
 use native.Mathlib.Numerals.{add-one}
 use native.Mathlib.Omega.{arith}
 use mathlib.Core.List.{List}
-use lib.ListN.{length, getD, set}
+use lib.ListN.{length, getD, set, length-set}
 use lib.Seq.{getD-set-same, getD-set-other}
 use lib.Bits.{bitOr, or-add-and, and-le-l, and-le-r}
 use lib.Dec.{eqb}
@@ -29,9 +29,9 @@ pub record Before (page : List ℕ) (n q : ℕ) : Type 0 where
   pub inside : index < n
   pub is : getD page index 0 ≡ q
 
--- marks know the first n pages: each has a mark at its remainder by 2,048
+-- 2,048 marks know the first n pages: each has a mark at its remainder
 abbrev pub Knows : List ℕ → List ℕ → ℕ → Type 0
-Knows marks page n = (j : ℕ) → j < n → getD marks (getD page j 0 % 2048) 0 ≢ 0
+Knows marks page n = (length marks ≡ 2048) × ((j : ℕ) → j < n → getD marks (getD page j 0 % 2048) 0 ≢ 0)
 
 module _ (page : List ℕ) where
   -- ---- a page stands before a place
@@ -110,23 +110,28 @@ module _ (page : List ℕ) where
 
   -- ---- marks by remainders
 
-  pub knows-more : (marks : List ℕ) (i : ℕ) → length marks ≡ 2048 → Knows marks page i → Knows (set marks (getD page i 0 % 2048) 1) page (i + 1)
-  knows-more marks i l k =
+  pub knows-more : (marks : List ℕ) (i : ℕ) → Knows marks page i → Knows (set marks (getD page i 0 % 2048) 1) page (i + 1)
+  knows-more marks i (l, k) =
       let r : ℕ = getD page i 0 % 2048 in
-      let here : getD (set marks r 1) r 0 ≡ 1 = getD-set-same marks r 1 0 (omega arith) in
-      below-more _ i
-      (λ j h z.
-      dite (ℕ-discrete (getD page j 0 % 2048) r)
-      (λ e. omega (arith, rw e at z))
-      (λ d. k j h (sym (getD-set-other marks r _ 1 0 d) ∙ z)))
-      (λ z. omega arith)
+      let here : getD (set marks r 1) r 0 ≡ 1 = getD-set-same marks r 1 0 (omega arith) in (
+        length-set marks r 1 ∙ l,
+        below-more _ i
+            (λ j h z.
+            dite (ℕ-discrete (getD page j 0 % 2048) r)
+            (λ e. omega (arith, rw e at z))
+            (λ d. k j h (sym (getD-set-other marks r _ 1 0 d) ∙ z)))
+            (λ z. omega arith),
+      )
+
+  pub knows-met : (marks : List ℕ) (i : ℕ) → Knows marks page i → getD marks (getD page i 0 % 2048) 0 ≢ 0 → Knows marks page (i + 1)
+  knows-met marks i (l, k) met = (l, below-more _ i k met)
 
   pub knows-new : (marks : List ℕ) (i : ℕ) → Knows marks page i → getD marks (getD page i 0 % 2048) 0 ≡ 0 → hasBefore page i (getD page i 0) ≡ false
-  knows-new marks i k z = hasBefore-nowhere i (getD page i 0) (λ j h e. k j h (rw e z))
+  knows-new marks i (l, k) z = hasBefore-nowhere i (getD page i 0) (λ j h e. k j h (rw e z))
 
   pub allApart-more : (marks : List ℕ) (met i : ℕ) → Knows marks page i → (met ≡ 0 → AllApart page i)
       → bitOr met (getD marks (getD page i 0 % 2048) 0) ≡ 0 → AllApart page (i + 1)
-  allApart-more marks met i k apart none f g h j e =
+  allApart-more marks met i (_, k) apart none f g h j e =
       dite (decLt f i)
       (λ l. dite (decLt g i) (λ m. apart old f g l m e) (λ n. let s : g ≡ i = omega arith in absurd (k f l (rw (e, s) new))))
       (λ n.

@@ -320,22 +320,23 @@ fn nonzero_apart(page: &[u16; PLACES], frames: usize) -> bool
     while i < frames {
         let q = page[i];
         let k = (q % 2048) as usize;
-        if marks[k] != 0 {
+        if marks[k] == 0 {
+            marks[k] = 1;
+        } else {
             if q != 0 {
                 if stands_before(page, i, q) {
                     ok = false;
                 }
             }
         }
-        marks[k] = 1;
         i += 1;
     }
     ok
 }
 
-// Whether the pages are right: 0 in an empty frame; in any other below `pages`, and in no other such frame. Pages that are all different are right; two
-// empty frames share page 0, so the glance is for fewer. Else, where every empty frame has page 0, one more frame may have it, so it is enough to count
-// the zeros and to look for other pages that stand twice.
+// Whether the pages are right: 0 in an empty frame; in any other below `pages`, and in no other such frame. Pages that are all different are right. The
+// glance is for where it does not fail by chance: two empty frames share page 0, and of more than 2,048 pages two may share a remainder. Else, where
+// every empty frame has page 0, one more frame may have it, so it is enough to count the zeros and to look for other pages that stand twice.
 fn pages_right(
     e: &[u8; PLACES],
     en: usize,
@@ -355,8 +356,10 @@ fn pages_right(
         return false;
     }
     if en < 2 {
-        if glance_apart(page, frames) {
-            return true;
+        if pages <= 2048 {
+            if glance_apart(page, frames) {
+                return true;
+            }
         }
     }
     if en + 1 < zeros_in(page, frames) {

@@ -7,20 +7,19 @@ use native.Mathlib.Omega.{arith}
 use borrow.Author.Count.{below-none}
 use borrow.Author.Needs.{needs}
 use borrow.Author.Tests.{eqb-true}
-use lib.ListN.{length}
 use Rattle.pool.specs.Parts.{AllApart}
 use Rattle.pool.proofs.Apart.{Knows, knows-more, allApart-more}
 use Rattle.pool.proofs.glance_apart.Statement.{statement}
 use Rattle.pool.proofs.glance_apart.Tie as tie
 
 abbrev Inv-loop : tie.InvT-loop
-Inv-loop page frames marks₀ met₀ i₀ marks met i = (i ≤ frames) × (length marks ≡ 2048) × (met ≡ 0 → AllApart page i) × Knows marks page i
+Inv-loop page frames marks₀ met₀ i₀ marks met i = (i ≤ frames) × (met ≡ 0 → AllApart page i) × Knows marks page i
 
 abbrev μ-loop : tie.MeasureT-loop
 μ-loop page frames marks₀ met₀ i₀ marks met i = frames - i
 
 loop-holds : tie.Need-loop-holds Inv-loop μ-loop
-loop-holds c = (search needs, refl, (λ _ f g h. absurd (not-suc-le-zero h)), below-none _)
+loop-holds c = (search needs, (λ _ f g h. absurd (not-suc-le-zero h)), (refl, below-none _))
 
 mul-m : tie.Need-mul-m Inv-loop μ-loop
 mul-m c = search needs
@@ -48,16 +47,15 @@ loop-again c =
     let page = c .before .before .before .args .page .now in
     let l = c .before .before .loop in (
       search needs,
-      search needs,
-      allApart-more page (l .marks) (l .met) (l .i) (l .inv .3) (l .inv .2),
-      knows-more page (l .marks) (l .i) (l .inv .1) (l .inv .3),
+      allApart-more page (l .marks) (l .met) (l .i) (l .inv .2) (l .inv .1),
+      knows-more page (l .marks) (l .i) (l .inv .2),
     )
 
 returns : tie.Need-returns Inv-loop μ-loop
 returns c none =
     let l = c .before .loop in
     let e : l .i ≡ c .before .before .args .frames = omega arith in
-    rw e at (l .inv .2 (eqb-true _ _ none))
+    rw e at (l .inv .1 (eqb-true _ _ none))
 
 pub glance-apart-spec : {M : Type 1} → statement M
 glance-apart-spec =

@@ -6,20 +6,19 @@ use Prim.Native.Nat.{_-_, _≤_}
 use native.Mathlib.Omega.{arith}
 use borrow.Author.Count.{below-none}
 use borrow.Author.Needs.{needs}
-use lib.ListN.{length}
 use Rattle.pool.specs.Parts.{nonzeroApart}
-use Rattle.pool.proofs.Apart.{Knows, knows-more, knows-new, nonzeroApart-twice, nonzeroApart-zero, nonzeroApart-new}
+use Rattle.pool.proofs.Apart.{Knows, knows-more, knows-met, knows-new, nonzeroApart-twice, nonzeroApart-zero, nonzeroApart-new}
 use Rattle.pool.proofs.nonzero_apart.Statement.{statement}
 use Rattle.pool.proofs.nonzero_apart.Tie as tie
 
 abbrev Inv-loop : tie.InvT-loop
-Inv-loop page frames marks₀ ok₀ i₀ marks ok i = (i ≤ frames) × (length marks ≡ 2048) × (ok ≡ nonzeroApart page i) × Knows marks page i
+Inv-loop page frames marks₀ ok₀ i₀ marks ok i = (i ≤ frames) × (ok ≡ nonzeroApart page i) × Knows marks page i
 
 abbrev μ-loop : tie.MeasureT-loop
 μ-loop page frames marks₀ ok₀ i₀ marks ok i = frames - i
 
 loop-holds : tie.Need-loop-holds Inv-loop μ-loop
-loop-holds c = (search needs, refl, refl, below-none _)
+loop-holds c = (search needs, refl, (refl, below-none _))
 
 mul-q : tie.Need-mul-q Inv-loop μ-loop
 mul-q c = search needs
@@ -33,11 +32,11 @@ cast-k c = search needs
 array-read-if1 : tie.Need-array-read-if1 Inv-loop μ-loop
 array-read-if1 c = search needs
 
-stands-before-requires : tie.Need-stands-before-requires Inv-loop μ-loop
-stands-before-requires c κs = search needs
-
 array-write-marks : tie.Need-array-write-marks Inv-loop μ-loop
 array-write-marks c = search needs
+
+stands-before-requires : tie.Need-stands-before-requires Inv-loop μ-loop
+stands-before-requires c κs = search needs
 
 add-i : tie.Need-add-i Inv-loop μ-loop
 add-i c = search needs
@@ -48,25 +47,30 @@ loop-less c = search needs
 loop-again : tie.Need-loop-again Inv-loop μ-loop
 loop-again c =
     let page = c .before .before .before .before .args .page .now in
-    let l = c .before .before .before .loop in (
-      search needs,
+    let l = c .before .before .before .loop in
+    let knows = knows-met page (l .marks) (l .i) (l .inv .2) in (
       search needs,
       ⊎-elim
-          (λ w. w .4 ∙ sym (nonzeroApart-twice page (l .i) (w .1 .taken) (sym (w .2 .ensures) ∙ w .3 .taken)))
+          (λ w. w .2 ∙ l .inv .1 ∙ sym (nonzeroApart-new page (l .i) (knows-new page (l .marks) (l .i) (l .inv .2) (w .0 .taken))))
           (⊎-elim
-          (λ w. w .4 ∙ l .inv .2 ∙ sym (nonzeroApart-new page (l .i) (sym (w .2 .ensures) ∙ w .3 .left)))
+          (λ w. w .5 ∙ sym (nonzeroApart-twice page (l .i) (w .1 .taken) (sym (w .2 .ensures) ∙ w .3 .taken)))
           (⊎-elim
-          (λ w. w .2 ∙ l .inv .2 ∙ sym (nonzeroApart-zero page (l .i) (w .1 .left)))
-          (λ w. w .1 ∙ l .inv .2 ∙ sym (nonzeroApart-new page (l .i) (knows-new page (l .marks) (l .i) (l .inv .3) (w .0 .left))))))
+          (λ w. w .5 ∙ l .inv .1 ∙ sym (nonzeroApart-new page (l .i) (sym (w .2 .ensures) ∙ w .3 .left)))
+          (λ w. w .3 ∙ l .inv .1 ∙ sym (nonzeroApart-zero page (l .i) (w .1 .left)))))
           (c .if1 .came),
-      knows-more page (l .marks) (l .i) (l .inv .1) (l .inv .3),
+      ⊎-elim
+          (λ w. rw (w .1) (knows-more page (l .marks) (l .i) (l .inv .2)))
+          (⊎-elim
+          (λ w. rw (w .4) (knows (w .0 .left)))
+          (⊎-elim (λ w. rw (w .4) (knows (w .0 .left))) (λ w. rw (w .2) (knows (w .0 .left)))))
+          (c .if1 .came),
     )
 
 returns : tie.Need-returns Inv-loop μ-loop
 returns c =
     let l = c .before .loop in
     let e : l .i ≡ c .before .before .args .frames = omega arith in
-    rw e at (l .inv .2)
+    rw e at (l .inv .1)
 
 pub nonzero-apart-spec : {M : Type 1} → statement M
 nonzero-apart-spec =
@@ -79,8 +83,8 @@ nonzero-apart-spec =
     element-copy-out-q
     cast-k
     array-read-if1
-    stands-before-requires
     array-write-marks
+    stands-before-requires
     add-i
     loop-less
     loop-again

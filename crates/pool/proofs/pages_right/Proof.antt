@@ -57,14 +57,14 @@ glance-apart-requires c κs = search needs
 
 returns-3 : tie.Need-returns-3
 returns-3 c =
-    let behind-blank = c .before .before .before in
+    let behind-blank = c .before .before .before .before in
     let a = behind-blank .before .before .before .before .args in
     apart-pages (a .frames) (a .pages) (take (a .en) (a .e .now)) (a .page .now) (search needs) (search needs)
     (low (behind-blank .before .before)) (blank behind-blank)
-    (c .before .glance-apart .ensures (c .if4 .taken))
+    (c .before .glance-apart .ensures (c .if5 .taken))
 
-add-if5 : tie.Need-add-if5
-add-if5 c = search needs
+add-if6 : tie.Need-add-if6
+add-if6 c = search needs
 
 zeros-in-requires : tie.Need-zeros-in-requires
 zeros-in-requires c κs = search needs
@@ -100,7 +100,7 @@ pages-right-spec =
     returns-2
     glance-apart-requires
     returns-3
-    add-if5
+    add-if6
     zeros-in-requires
     returns-4
     nonzero-apart-requires
