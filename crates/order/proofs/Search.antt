@@ -1,9 +1,9 @@
 -- Laws of the search for a page.
 --     findFrom-hit, findFrom-miss, findFrom-end    a loop from the front, over the frames that are left: it finds, goes on, or is through
 --     findFrom-below, findFrom-at    a place that is found is one of the list, and its frame holds the page
---     findFrom-none    of a list where nothing is found no frame holds the page
+--     findFrom-none, findFrom-nowhere    of a list where nothing is found no frame holds the page, and the reverse
 -- Assumes nothing.
-use mathlib.Core.Path.{_≡_}
+use mathlib.Core.Path.{_≡_, refl}
 use mathlib.Core.Logic.{_⊎_, inl, inr, ⊎-elim, dite, _≢_}
 use Prim.Native.Nat.{ℕ, zero, suc, _+_, _≤_, _<_}
 use native.Mathlib.Decide.{ℕ-discrete}
@@ -68,3 +68,7 @@ module _ (page : List ℕ) (wanted : ℕ) where
       let d : findFrom (suc k) page wanted fs ≡ Nowhere = rw (ne-eqb _ _ n) at e in
       let m : g ≢ f = λ (j : g ≡ f). n (rw j x) in
       findFrom-none (suc k) fs d f (omega (arith, bit-other g f m)) x)
+
+  pub findFrom-nowhere : (k : ℕ) (fs : List ℕ) → ((i : ℕ) → i < length fs → getD page (getD fs i 0) 0 ≢ wanted) → findFrom k page wanted fs ≡ Nowhere
+  findFrom-nowhere k [] p = refl
+  findFrom-nowhere k (f ∷ fs) p = rw (ne-eqb _ _ (p 0 (omega arith))) (findFrom-nowhere (suc k) fs (λ i h. p (suc i) (omega arith)))

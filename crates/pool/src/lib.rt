@@ -275,7 +275,7 @@ fn all_blank(list: &[u8; PLACES], n: usize, page: &[u16; PLACES]) -> bool
 }
 
 // Whether the page q stands before place `end`.
-fn stands_before(page: &[u16; PLACES], end: usize, q: u16) -> bool
+pub fn stands_before(page: &[u16; PLACES], end: usize, q: u16) -> bool
     requires { ⌜ end ≤ places ⌝ }
     ensures { λ r. ⌜ r ≡ hasBefore (now (page .entry)) end q ⌝ }
 {

@@ -37,6 +37,7 @@ pub struct Freed {
 
 // ---- where a page is
 
+// A page that no frame has, empty or not, is absent: one look through the pages, in vector code, is cheaper than the way through the lists to their ends.
 fn place_of(
     clean: [u8; PLACES],
     cn: usize,
@@ -50,6 +51,9 @@ fn place_of(
     requires { ⌜ ((k : ℕ) → k < dn → getD dirty k 0 < places) ⌝ }
     ensures { λ r. ⌜ r ≡ placeBy (findFrom 0 page wanted (take cn clean)) (findFrom 0 page wanted (take dn dirty)) ⌝ }
 {
+    if !pool::stands_before(&page, PLACES, wanted) {
+        return Place::Absent;
+    }
     let in_clean = order::find(clean, cn, page, wanted);
     match in_clean {
         Found::At(i) => Place::InClean(i),
