@@ -123,6 +123,14 @@ pub fn write_back_all(
     }
 }
 
+// The bytes of so many frames or pages.
+pub fn area(count: usize, size: usize) -> usize
+    requires { ⌜ (count ≤ 65536) × (size ≤ 65535) ⌝ }
+    ensures { λ r. ⌜ r ≡ count * size ⌝ }
+{
+    count * size
+}
+
 // Whether `m` bytes of frame memory and `n` bytes of store are b frames and N pages of `size` bytes.
 pub fn sizes_match(m: usize, n: usize, b: usize, pages: usize, size: usize) -> bool
     requires { ⌜ (b ≤ places) × (pages ≤ 65536) × (size ≤ 4096) ⌝ }

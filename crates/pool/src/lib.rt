@@ -291,7 +291,7 @@ pub fn stands_before(page: &[u16; PLACES], end: usize, q: u16) -> bool
 }
 
 // Whether a glance shows that the first `frames` pages are all different: no two have the same remainder by 2,048. The loop has no branch, so a page
-// costs half of what it costs in the walk below. A no says nothing.
+// costs less than in the walk below. A no says nothing.
 fn glance_apart(page: &[u16; PLACES], frames: usize) -> bool
     requires { ⌜ frames ≤ places ⌝ }
     ensures { λ r. ⌜ (r ≡ true → AllApart (now (page .entry)) frames) ⌝ }

@@ -1,6 +1,4 @@
 // Reads one trace from standard input, serves each record on a store of zero bytes, and prints the listing. What is refused prints only that.
-ghost use mathlib.Core.Path.{_≡_};
-ghost use Prim.Native.Nat.{_*_, _≤_};
 use casa::Opened;
 use casa::Served;
 use libc::STDIN_FILENO;
@@ -241,13 +239,6 @@ fn run(bytes: &[u8], trailer: Trailer, frames: &mut [u8], store: &mut [u8]) {
     tell_end(last);
 }
 
-fn area(count: usize, size: usize) -> usize
-    requires { ⌜ (count ≤ 65536) × (size ≤ 65535) ⌝ }
-    ensures { λ r. ⌜ r ≡ count * size ⌝ }
-{
-    count * size
-}
-
 // Refusal 10, or the run on a store of zero bytes.
 fn run_sized(bytes: &[u8], trailer: Trailer) {
     let mut frames = [0u8; MOST_FRAMES];
@@ -267,8 +258,8 @@ fn run_sized(bytes: &[u8], trailer: Trailer) {
         refused(Refusal::OutOfLimits);
         return;
     }
-    let frame_bytes = area(b, p);
-    let store_bytes = area(n, p);
+    let frame_bytes = pages::area(b, p);
+    let store_bytes = pages::area(n, p);
     if MOST_FRAMES < frame_bytes {
         refused(Refusal::LargePool);
         return;

@@ -1,6 +1,5 @@
 // Calls by chance, from a fixed sequence of numbers, and the pools that they are made on.
-ghost use mathlib.Core.Path.{_≡_};
-ghost use Prim.Native.Nat.{_*_, _≤_};
+ghost use Prim.Native.Nat.{_≤_};
 use crate::calls::Call;
 
 // The next number of a fixed sequence (MINSTD).
@@ -55,13 +54,6 @@ pub fn costs_of(frames: usize) -> Costs {
     }
 }
 
-fn area(count: usize, size: usize) -> usize
-    requires { ⌜ (count ≤ 65536) × (size ≤ 65535) ⌝ }
-    ensures { λ r. ⌜ r ≡ count * size ⌝ }
-{
-    count * size
-}
-
 // Twice as many pages as frames, and three.
 pub fn world_of(frames: usize) -> World
     requires { ⌜ frames ≤ 64 ⌝ }
@@ -72,8 +64,8 @@ pub fn world_of(frames: usize) -> World
         frames,
         page_bytes,
         pages,
-        frame_bytes: area(frames, page_bytes),
-        store_bytes: area(pages, page_bytes),
+        frame_bytes: pages::area(frames, page_bytes),
+        store_bytes: pages::area(pages, page_bytes),
     }
 }
 

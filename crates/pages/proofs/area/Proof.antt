@@ -1,8 +1,8 @@
--- `sweep::chance::area` meets its contract: the largest product fits 64 bits. Assumes nothing.
+-- `pages::area` meets its contract: the largest product fits 64 bits. Assumes nothing.
 use borrow.Author.Needs.{needs}
 use Rattle.pages.proofs.Memory.{product-fits}
-use Rattle.sweep.proofs.chance.area.Statement.{statement}
-use Rattle.sweep.proofs.chance.area.Tie as tie
+use Rattle.pages.proofs.area.Statement.{statement}
+use Rattle.pages.proofs.area.Tie as tie
 
 mul-result : tie.Need-mul-result
 mul-result c = product-fits 65536 65535 (search needs) (search needs) tt
