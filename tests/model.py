@@ -6,6 +6,7 @@ expected outputs under tests/ come from here, never from the program that is tes
 
   model.py run < TRACE        the listing of one trace
 """
+import copy
 import struct
 import sys
 
@@ -40,6 +41,11 @@ class Pool:
         self.E, self.C, self.D = list(range(b - 1, -1, -1)), [], []
         self.page = [0] * b
         self.target = self.served = self.nR = self.nW = 0
+
+    def copied(self):
+        other = copy.copy(self)
+        other.E, other.C, other.D, other.page = self.E[:], self.C[:], self.D[:], self.page[:]
+        return other
 
     # ---- soundness
 

@@ -4,7 +4,6 @@ frames, and of calls on pools in which one thing was changed. crates/sweep/stdou
 
   sweep.py            prints lines `small R W LENGTH DIGEST`, `random B DIGEST` and `broken B DIGEST`, and after the runs how often each answer came
 """
-import copy
 import struct
 import sys
 import zlib
@@ -139,19 +138,13 @@ def small_call(i, letter):
     return dict(letter='RWF'[letter // 3], page=page, start=5 * i % 12, length=i % 4 + 1, value=16 * i + page, frames=32, store=48, out=16)
 
 
-def copied(pool):
-    other = copy.copy(pool)
-    other.E, other.C, other.D, other.page = pool.E[:], pool.C[:], pool.D[:], pool.page[:]
-    return other
-
-
 def small(r, w):
     """Sequences that begin alike are served together: the model's pool is copied at each fork. Within one length they still come in order."""
     tallies = [Tally() for _ in range(6)]
 
     def go(i, pool, memory):
         for letter in range(7):
-            now, bytes_now = copied(pool), memory.copy()
+            now, bytes_now = pool.copied(), memory.copy()
             answer = make(now, small_call(i, letter), bytes_now)
             tallies[i].absorb(answer, Raw(now), bytes_now)
             if i < 5:
