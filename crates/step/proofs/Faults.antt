@@ -1,5 +1,5 @@
--- What the parts of a fault leave. The chosen frame leaves its list, and the pool between holds the state between, which lacks that frame; the page is loaded
--- into it, and it goes to the front of C or D.
+-- What the parts of a fault leave. The chosen frame leaves its list, and the pool between holds the state between, which lacks that frame; the frame is filled
+-- with the page, and goes to the front of C or D.
 -- Assumes nothing.
 use mathlib.Core.Path.{_≡_, refl, sym, ap, _∙_}
 use Prim.Native.Nat.{ℕ, _+_, _-_, _*_, _≤_, _<_}
@@ -11,7 +11,7 @@ use Rattle.order.specs.Places.{places, pad, Holds}
 use Rattle.order.proofs.Lists.{removeAt-length}
 use Rattle.order.proofs.Places.{pad-set, holds-getD, holds-remove, holds-cons}
 use Rattle.model.specs.Numbers.{mostServed}
-use Rattle.model.specs.State.{State, Counts, withLists, counted}
+use Rattle.model.specs.State.{State, Counts, withLists, withPageIn, counted}
 use Rattle.model.specs.Good.{Good}
 use Rattle.model.specs.Request.{chosenBy, chosen, ChoiceIn, Taken, taken, writesOf, loaded, faultInto, faulted}
 use Rattle.model.specs.declared.Op.{Op}
@@ -72,28 +72,35 @@ module _ (p : Pool) (s : Sound p) where
       freed-is (empty-holds p s) (clean-holds p s) (rw (← k) at (holds-remove (dirty-holds p s) i h)) (holds-getD (dirty-holds p s) i h)
       (ap Dirty (held-page p s (dirty-holds p s) i h (dirty-frame p s i h)))
 
--- ---- a page is loaded into a frame
+-- ---- the frame is filled, and goes to the front of a list
 
--- C, D and the pages with the frame loaded, and so many writes more
-abbrev pub loadedWith : Pool → List ℕ → ℕ → List ℕ → ℕ → List ℕ → ℕ → Pool
-loadedWith p c cn d dn pages writes =
-    refilled (p .empty) (p .«empty_len») c cn d dn pages (p .target) (p .served + 1) (p .reads .0 + 1) (p .writes .0 + writes) p
+-- other C and D
+abbrev relisted : Pool → List ℕ → ℕ → List ℕ → ℕ → Pool
+relisted p c cn d dn =
+    refilled (p .empty) (p .«empty_len») c cn d dn (p .page) (p .target) (p .served) (p .reads .0) (p .writes .0) p
 
-module _ (p : Pool) (s : State) (w : p ≡ poolOf s) (f q writes : ℕ) (h : f < length (s .page)) where
-  page-is : set (p .page) f q ≡ pad (set (s .page) f q)
-  page-is = ap (λ (x : Pool). set (x .page) f q) w ∙ pad-set (s .page) f q h
+module _ (p : Pool) (s : State) (w : p ≡ poolOf s) (f : ℕ) where
+  -- other pages, one call and one read more, and so many writes more
+  pub fill-is : (q writes : ℕ) → f < length (s .page)
+      → refilled (p .empty) (p .«empty_len») (p .clean) (p .«clean_len») (p .dirty) (p .«dirty_len») (set (p .page) f q) (p .target)
+      (p .served + 1) (p .reads .0 + 1) (p .writes .0 + writes) p
+      ≡ poolOf (counted 1 writes (withPageIn f q s))
+  fill-is q writes h =
+      let pages : set (p .page) f q ≡ pad (set (s .page) f q) = ap (λ (x : Pool). set (x .page) f q) w ∙ pad-set (s .page) f q h in
+      λ i. refilled (w i .empty) (w i .«empty_len») (w i .clean) (w i .«clean_len») (w i .dirty) (w i .«dirty_len») (pages i) (w i .target)
+      (w i .served + 1) (w i .reads .0 + 1) (w i .writes .0 + writes) (w i)
 
-  pub load-clean-is : p .«clean_len» < places → {c : List ℕ} → c ≡ f ∷ removeAt (p .«clean_len») (p .clean)
-      → loadedWith p c (p .«clean_len» + 1) (p .dirty) (p .«dirty_len») (set (p .page) f q) writes ≡ poolOf (counted 1 writes (loaded Read f q s))
-  load-clean-is l k =
+  pub front-clean-is : p .«clean_len» < places → {c : List ℕ} → c ≡ f ∷ removeAt (p .«clean_len») (p .clean)
+      → relisted p c (p .«clean_len» + 1) (p .dirty) (p .«dirty_len») ≡ poolOf (withLists (s .lists .E) (f ∷ s .lists .C) (s .lists .D) s)
+  front-clean-is l k =
       let hc = holds-cons (pool-clean p s w (omega arith)) f l in
-      λ i. loadedWith (w i) ((k ∙ hc .is) i) (sym (hc .len) i) (w i .dirty) (w i .«dirty_len») (page-is i) writes
+      λ i. relisted (w i) ((k ∙ hc .is) i) (sym (hc .len) i) (w i .dirty) (w i .«dirty_len»)
 
-  pub load-dirty-is : p .«dirty_len» < places → {d : List ℕ} → d ≡ f ∷ removeAt (p .«dirty_len») (p .dirty)
-      → loadedWith p (p .clean) (p .«clean_len») d (p .«dirty_len» + 1) (set (p .page) f q) writes ≡ poolOf (counted 1 writes (loaded Write f q s))
-  load-dirty-is l k =
+  pub front-dirty-is : p .«dirty_len» < places → {d : List ℕ} → d ≡ f ∷ removeAt (p .«dirty_len») (p .dirty)
+      → relisted p (p .clean) (p .«clean_len») d (p .«dirty_len» + 1) ≡ poolOf (withLists (s .lists .E) (s .lists .C) (f ∷ s .lists .D) s)
+  front-dirty-is l k =
       let hd = holds-cons (pool-dirty p s w (omega arith)) f l in
-      λ i. loadedWith (w i) (w i .clean) (w i .«clean_len») ((k ∙ hd .is) i) (sym (hd .len) i) (page-is i) writes
+      λ i. relisted (w i) (w i .clean) (w i .«clean_len») ((k ∙ hd .is) i) (sym (hd .len) i)
 
 -- ---- the whole fault
 
@@ -124,12 +131,19 @@ writes-one None = omega arith
 writes-one (Clean q) = omega arith
 writes-one (Dirty q) = omega arith
 
--- what is freed, with so many writes, can be loaded
-pub record Loadable (x : Freed) (n : ℕ) : Type 0 where
+-- frame f goes to the front of C for a read, of D for a write; after it was filled, that is the loaded state
+abbrev fronted : Op → ℕ → State → State
+fronted Read f s = withLists (s .lists .E) (f ∷ s .lists .C) (s .lists .D) s
+fronted Write f s = withLists (s .lists .E) (s .lists .C) (f ∷ s .lists .D) s
+
+fronted-loaded : (op : Op) (f q n : ℕ) (s : State) → fronted op f (counted 1 n (withPageIn f q s)) ≡ counted 1 n (loaded op f q s)
+fronted-loaded Read f q n s = refl
+fronted-loaded Write f q n s = refl
+
+-- what is freed, with so many writes, can be filled
+pub record Fillable (x : Freed) (n : ℕ) : Type 0 where
   pub frame : x .frame < places
   pub few : n ≤ 1
-  pub clean : x .pool .«clean_len» < places
-  pub dirty : x .pool .«dirty_len» < places
   pub served : x .pool .served ≤ mostServed
   pub reads : x .pool .reads .0 ≤ mostServed
   pub writes : x .pool .writes .0 ≤ places * mostServed
@@ -145,40 +159,50 @@ module _ (p : Pool) (s : Sound p) (k : Choice) (h : ChoiceIn (p .«empty_len») 
   counts-are : _≡_ {A = Counts} (record { served = x .pool .served; nR = x .pool .reads .0; nW = x .pool .writes .0 }) (stateOf p .counts)
   counts-are = ap (λ (y : Freed). record { served = y .pool .served; nR = y .pool .reads .0; nW = y .pool .writes .0 }) e ∙ inside .counts
 
-  pub freed-loadable : {n : ℕ} → n ≡ writesOf (x .victim) → Loadable x n
-  freed-loadable m =
+  pub freed-fillable : {n : ℕ} → n ≡ writesOf (x .victim) → Fillable x n
+  freed-fillable m =
       let b : p .frames ≤ places = s .good .limits .b-high in
-      let c : x .pool .«clean_len» ≡ length (taken (stateOf p) k .state .lists .C) = ap (λ (y : Freed). y .pool .«clean_len») e in
-      let d : x .pool .«dirty_len» ≡ length (taken (stateOf p) k .state .lists .D) = ap (λ (y : Freed). y .pool .«dirty_len») e in
       let v : x .pool .served ≡ p .served = ap (λ (n : Counts). n .served) counts-are in
       let r : x .pool .reads .0 ≡ p .reads .0 = ap (λ (n : Counts). n .nR) counts-are in
       let w : x .pool .writes .0 ≡ p .writes .0 = ap (λ (n : Counts). n .nW) counts-are in
       record {
         frame = omega (arith, frame-is, inside .frame);
         few = rw m (writes-one (x .victim));
-        clean = omega (arith, inside .clean);
-        dirty = omega (arith, inside .dirty);
         served = omega (arith, s .good .served-high);
         reads = omega (arith, s .good .served-high, s .good .reads-high);
         writes = omega (arith, writes-fit p s);
       }
 
-  pub fault-is : (op : Op) (q : ℕ) {n : ℕ} {r : Pool}
-      → k ≡ chosenBy (p .«empty_len») (p .«clean_len») (p .«dirty_len») (p .target) → n ≡ writesOf (x .victim)
-      → ((t : State) → x .pool ≡ poolOf t → x .frame < length (t .page) → length (t .page) ≤ places → r ≡ poolOf (counted 1 n (loaded op (x .frame) q t)))
-      → _≡_ {A = Step} (record { pool = r; frame = x .frame; answer = Fault (x .victim) }) (stepOf (faulted op (stateOf p) q))
-  fault-is op q {n} {r} c m all =
-      let t : State = taken (stateOf p) k .state in
-      let l : length (t .page) ≡ p .frames = ap length (inside .page) ∙ s .good .paged in
-      let b : p .frames ≤ places = s .good .limits .b-high in
-      let a : r ≡ poolOf (counted 1 n (loaded op (x .frame) q t)) =
-      all t (ap (λ (y : Freed). y .pool) e) (omega (arith, frame-is, inside .frame)) (omega arith) in
-      let one : _≡_ {A = Step} (record { pool = r; frame = x .frame; answer = Fault (x .victim) }) (stepOf (faultInto op q (taken (stateOf p) k))) =
-      λ i. record {
-        pool = (a ∙ (λ j. poolOf (counted 1 ((m ∙ ap (λ (y : Freed). writesOf (y .victim)) e) j) (loaded op (frame-is j) q t)))) i;
-        frame = frame-is i;
-        answer = Fault (e i .victim);
-      } in
-      let which : k ≡ chosen (stateOf p) =
-      c ∙ (λ i. chosenBy (sym (empty-holds p s .len) i) (sym (clean-holds p s .len) i) (sym (dirty-holds p s .len) i) (p .target)) in
-      one ∙ ap (λ (z : Choice). stepOf (faultInto op q (taken (stateOf p) z))) which
+  -- the state between, with the page in its frame; C and D have room for that frame
+  module _ (q n : ℕ) {r : Pool}
+      (all : (t : State) → x .pool ≡ poolOf t → x .frame < length (t .page) → r ≡ poolOf (counted 1 n (withPageIn (x .frame) q t))) where
+    filled-is : r ≡ poolOf (counted 1 n (withPageIn (x .frame) q (taken (stateOf p) k .state)))
+    filled-is =
+        let l : length (taken (stateOf p) k .state .page) ≡ p .frames = ap length (inside .page) ∙ s .good .paged in
+        all (taken (stateOf p) k .state) (ap (λ (y : Freed). y .pool) e) (omega (arith, frame-is, inside .frame))
+
+    pub filled-clean : r .«clean_len» < places
+    filled-clean =
+        let c : r .«clean_len» ≡ length (taken (stateOf p) k .state .lists .C) = ap (λ (y : Pool). y .«clean_len») filled-is in
+        omega (arith, inside .clean)
+
+    pub filled-dirty : r .«dirty_len» < places
+    filled-dirty =
+        let d : r .«dirty_len» ≡ length (taken (stateOf p) k .state .lists .D) = ap (λ (y : Pool). y .«dirty_len») filled-is in
+        omega (arith, inside .dirty)
+
+    pub fault-is : (op : Op) {y : Pool} → ((t : State) → r ≡ poolOf t → y ≡ poolOf (fronted op (x .frame) t))
+        → k ≡ chosenBy (p .«empty_len») (p .«clean_len») (p .«dirty_len») (p .target) → n ≡ writesOf (x .victim)
+        → _≡_ {A = Step} (record { pool = y; frame = x .frame; answer = Fault (x .victim) }) (stepOf (faulted op (stateOf p) q))
+    fault-is op {y} front c m =
+        let t : State = taken (stateOf p) k .state in
+        let a : y ≡ poolOf (counted 1 n (loaded op (x .frame) q t)) = front (counted 1 n (withPageIn (x .frame) q t)) filled-is ∙ ap poolOf (fronted-loaded op (x .frame) q n t) in
+        let one : _≡_ {A = Step} (record { pool = y; frame = x .frame; answer = Fault (x .victim) }) (stepOf (faultInto op q (taken (stateOf p) k))) =
+        λ i. record {
+          pool = (a ∙ (λ j. poolOf (counted 1 ((m ∙ ap (λ (z : Freed). writesOf (z .victim)) e) j) (loaded op (frame-is j) q t)))) i;
+          frame = frame-is i;
+          answer = Fault (e i .victim);
+        } in
+        let which : k ≡ chosen (stateOf p) =
+        c ∙ (λ i. chosenBy (sym (empty-holds p s .len) i) (sym (clean-holds p s .len) i) (sym (dirty-holds p s .len) i) (p .target)) in
+        one ∙ ap (λ (z : Choice). stepOf (faultInto op q (taken (stateOf p) z))) which

@@ -1,13 +1,14 @@
 // One request and one flush on a sound pool: where the page is, which frame is taken, and the pool afterwards. No byte of a page is touched here.
 ghost use mathlib.Core.Path.{_≡_};
 ghost use Prim.Native.Nat.{ℕ, _+_, _*_, _≤_, _<_};
+ghost use mathlib.Core.List.{_∷_};
 ghost use lib.ListN.{length, getD, take};
 ghost use Rattle.order.specs.Places.{places};
 ghost use Rattle.order.specs.Find.{findFrom};
 ghost use Rattle.model.specs.Numbers.{unit, mostServed};
 ghost use Rattle.model.specs.Target.{up, down, adjust};
-ghost use Rattle.model.specs.State.{State, counted};
-ghost use Rattle.model.specs.Request.{placeBy, chosenBy, ChoiceIn, taken, writesOf, loaded, readClean, writeClean, writeDirty, readDirty, faulted, request, flushed};
+ghost use Rattle.model.specs.State.{State, withLists, withPageIn, counted};
+ghost use Rattle.model.specs.Request.{placeBy, chosenBy, ChoiceIn, taken, writesOf, readClean, writeClean, writeDirty, readDirty, faulted, request, flushed};
 ghost use Rattle.pool.specs.Pool.{poolOf, stateOf, Sound};
 ghost use Rattle.step.specs.Step.{costs, mostCost, stepOf, freedOf};
 use model::Answer;
@@ -304,22 +305,17 @@ fn writes_of(victim: Victim) -> u64
     }
 }
 
-// The page goes to the frame, and the frame to the front of C. The pool lacks a frame here, so it is spoken of by the state that it holds.
-fn load_clean(pool: Pool, frame: u8, page: u16, writes: u64) -> Pool
-    requires { ⌜ (frame < places) × (writes ≤ 1) × (pool .«clean_len» < places) × (pool .served ≤ mostServed) × (pool .reads .0 ≤ mostServed) × (pool .writes .0 ≤ places * mostServed) ⌝ }
-    ensures { λ r. ⌜ ((s : State) → pool ≡ poolOf s → frame < length (s .page) → length (s .page) ≤ places → r ≡ poolOf (counted 1 writes (loaded Op.Read frame page s))) ⌝ }
+// The page goes to the frame: one physical read, and so many writes. The pool lacks that frame here, so it is spoken of by the state that it holds.
+fn fill(pool: Pool, frame: u8, page: u16, writes: u64) -> Pool
+    requires { ⌜ (frame < places) × (writes ≤ 1) × (pool .served ≤ mostServed) × (pool .reads .0 ≤ mostServed) × (pool .writes .0 ≤ places * mostServed) ⌝ }
+    ensures { λ r. ⌜ ((s : State) → pool ≡ poolOf s → frame < length (s .page) → r ≡ poolOf (counted 1 writes (withPageIn frame page s))) ⌝ }
 {
-    let clean = pool.clean;
-    let n = pool.clean_len;
-    let longer = order::put_front(clean, n, frame);
     let mut pages = pool.page;
     let f = frame as usize;
     pages[f] = page;
     let reads = Reads(pool.reads.0 + 1);
     let writes_now = Writes(pool.writes.0 + writes);
     let mut next = pool;
-    next.clean = longer;
-    next.clean_len = n + 1;
     next.page = pages;
     next.served = pool.served + 1;
     next.reads = reads;
@@ -327,26 +323,31 @@ fn load_clean(pool: Pool, frame: u8, page: u16, writes: u64) -> Pool
     next
 }
 
-// The same to the front of D.
-fn load_dirty(pool: Pool, frame: u8, page: u16, writes: u64) -> Pool
-    requires { ⌜ (frame < places) × (writes ≤ 1) × (pool .«dirty_len» < places) × (pool .served ≤ mostServed) × (pool .reads .0 ≤ mostServed) × (pool .writes .0 ≤ places * mostServed) ⌝ }
-    ensures { λ r. ⌜ ((s : State) → pool ≡ poolOf s → frame < length (s .page) → length (s .page) ≤ places → r ≡ poolOf (counted 1 writes (loaded Op.Write frame page s))) ⌝ }
+// The frame goes to the front of C.
+fn front_clean(pool: Pool, frame: u8) -> Pool
+    requires { ⌜ pool .«clean_len» < places ⌝ }
+    ensures { λ r. ⌜ ((s : State) → pool ≡ poolOf s → r ≡ poolOf (withLists (s .lists .E) (frame ∷ s .lists .C) (s .lists .D) s)) ⌝ }
+{
+    let clean = pool.clean;
+    let n = pool.clean_len;
+    let longer = order::put_front(clean, n, frame);
+    let mut next = pool;
+    next.clean = longer;
+    next.clean_len = n + 1;
+    next
+}
+
+// The frame goes to the front of D.
+fn front_dirty(pool: Pool, frame: u8) -> Pool
+    requires { ⌜ pool .«dirty_len» < places ⌝ }
+    ensures { λ r. ⌜ ((s : State) → pool ≡ poolOf s → r ≡ poolOf (withLists (s .lists .E) (s .lists .C) (frame ∷ s .lists .D) s)) ⌝ }
 {
     let dirty = pool.dirty;
     let n = pool.dirty_len;
     let longer = order::put_front(dirty, n, frame);
-    let mut pages = pool.page;
-    let f = frame as usize;
-    pages[f] = page;
-    let reads = Reads(pool.reads.0 + 1);
-    let writes_now = Writes(pool.writes.0 + writes);
     let mut next = pool;
     next.dirty = longer;
     next.dirty_len = n + 1;
-    next.page = pages;
-    next.served = pool.served + 1;
-    next.reads = reads;
-    next.writes = writes_now;
     next
 }
 
@@ -360,9 +361,10 @@ fn fault(pool: Pool, page: u16, op: Op) -> Step
     let victim = freed.victim;
     let rest = freed.pool;
     let writes = writes_of(victim);
+    let filled = fill(rest, frame, page, writes);
     match op {
         Op::Read => {
-            let next = load_clean(rest, frame, page, writes);
+            let next = front_clean(filled, frame);
             Step {
                 pool: next,
                 frame: frame as usize,
@@ -370,7 +372,7 @@ fn fault(pool: Pool, page: u16, op: Op) -> Step
             }
         }
         Op::Write => {
-            let next = load_dirty(rest, frame, page, writes);
+            let next = front_dirty(filled, frame);
             Step {
                 pool: next,
                 frame: frame as usize,

@@ -1,23 +1,25 @@
 -- What the reader finds, told from what the check says of the trace, and where it goes on. Assumes nothing.
 use mathlib.Core.Path.{_≡_, refl}
 use mathlib.Core.Bool.{Bool, true, false}
-use mathlib.Core.List.{List}
+use mathlib.Core.List.{List, [], _∷_}
 use Prim.Native.Nat.{ℕ, _+_, _*_, _-_, _≤_, _<_}
 use native.Mathlib.Omega.{arith}
-use lib.Dec.{eqb}
+use lib.Dec.{eqb, ltb}
 use lib.ListN.{length}
-use borrow.Author.Tests.{lt-ltb, le-ltb, eqb-true}
-use Rattle.model.specs.Numbers.{if-else}
+use borrow.Author.Tests.{lt-ltb, le-ltb, eqb-true, eqb-false}
+use Rattle.model.specs.Numbers.{if-else, meant}
+use Rattle.model.specs.Refusals.{first, verdictBy, outOfLimits}
 use Rattle.model.specs.declared.Refusal.{Refusal}
-use Rattle.model.specs.declared.Refusal.the-variants.{BadRecord}
+use Rattle.model.specs.declared.Refusal.the-variants.{OutOfLimits, NotATrace, BadRecord}
+use Rattle.model.specs.declared.Verdict.the-variants as verdict
 use Rattle.trace.specs.declared.Trailer.{Trailer}
 use Rattle.trace.specs.declared.Checked.{Checked}
 use Rattle.trace.specs.declared.Checked.the-variants.{Refused, Fine}
 use Rattle.trace.specs.declared.Record.{Record}
 use Rattle.trace.specs.declared.Next.the-variants.{Record as Found, End}
-use Rattle.trace.specs.Format.{trailerLength, headerOf, recordAt, isEnd, placeAfter, badIn, checkedAll, checkedOf}
+use Rattle.trace.specs.Format.{trailerLength, trailerAt, numbersIn, pointsBack, notATrace, checkedBy, judged, headerOf, recordAt, isEnd, placeAfter, badIn, checkedAll, checkedOf}
 use Rattle.trace.proofs.Trailers.{header-accepts}
-use Rattle.trace.proofs.Records.{firstBad-none}
+use Rattle.trace.proofs.Records.{firstBad-none, firstBad-at}
 
 -- ---- what the check says of the header
 
@@ -48,6 +50,26 @@ fine-header s t e = go (headerOf s) e
     go (Refused y) d = absurd (let z : _≡_ {A = ℕ} 0 1 = cc in omega arith)
     go (Fine u) d = by (eqb (badIn s u) 0) u refl d
 
+-- the trailer is refused with 7 or 1, never for a record
+pub header-no-record : (s : List ℕ) (k : ℕ) → headerOf s ≡ Refused (BadRecord k) → ⊥
+unfolding headerOf judged
+header-no-record s k e = by (ltb (length s) trailerLength) e
+  where
+    t : Trailer
+    t = trailerAt s (length s - trailerLength)
+
+    limits : (b : Bool) → checkedBy (verdictBy b OutOfLimits verdict.Fine) t ≡ Refused (BadRecord k) → ⊥
+    limits true d = let z : _≡_ {A = ℕ} 0 1 = cc in omega arith
+    limits false d = let z : _≡_ {A = ℕ} 0 1 = cc in omega arith
+
+    back : (b : Bool) → checkedBy (verdictBy b NotATrace (first (outOfLimits (meant (numbersIn t)) ∷ []))) t ≡ Refused (BadRecord k) → ⊥
+    back true d = let z : _≡_ {A = ℕ} 0 1 = cc in omega arith
+    back false d = limits (outOfLimits (meant (numbersIn t)) .when) d
+
+    by : (b : Bool) → if-else b (Refused NotATrace) (judged (length s) t) ≡ Refused (BadRecord k) → ⊥
+    by true d = let z : _≡_ {A = ℕ} 0 1 = cc in omega arith
+    by false d = back (notATrace (pointsBack (length s) (t .distance) (t .records)) .when) d
+
 -- ---- what the reader finds
 
 -- where 7 or 1 refuses the bytes there is no record
@@ -67,6 +89,30 @@ fine-record s t e k h =
     let f = fine-header s t e in
     rw (f .0, lt-ltb k (t .records) h)
     (firstBad-none s (t .pages) (length s - t .distance) 0 (t .records) (f .1) k (omega arith) (omega arith))
+
+-- 8 names the first bad record, counted from 1: there is none at its place, and one at each place before it
+pub record BadAt (s : List ℕ) (t : Trailer) (k : ℕ) : Type 0 where
+  pub low : 1 ≤ k
+  pub high : k ≤ t .records
+  pub bad : isEnd (recordAt s (k - 1)) ≡ true
+  pub before : (i : ℕ) → i + 1 < k → isEnd (recordAt s i) ≡ false
+
+pub bad-record : (s : List ℕ) (t : Trailer) (k : ℕ) → headerOf s ≡ Fine t → checkedOf s ≡ Refused (BadRecord k) → BadAt s t k
+unfolding checkedOf recordAt
+bad-record s t k h e =
+    let d = by (eqb (badIn s t) 0) refl (rw h at e) in
+    let f = firstBad-at s (t .pages) (length s - t .distance) 0 (t .records) (k - 1) (omega (arith, d .0, d .1)) in
+    let within : k - 1 < t .records = omega (arith, f .within) in
+    record {
+      low = d .1;
+      high = omega (arith, d .1);
+      bad = rw (h, lt-ltb (k - 1) (t .records) within) (f .bad);
+      before = λ i l. rw (h, lt-ltb i (t .records) (omega arith)) (f .before i (omega arith) (omega arith));
+    }
+  where
+    by : (b : Bool) → eqb (badIn s t) 0 ≡ b → if-else b (Fine t) (Refused (BadRecord (badIn s t))) ≡ Refused (BadRecord k) → (badIn s t ≡ k) × (1 ≤ k)
+    by true p d = absurd (let z : _≡_ {A = ℕ} 0 1 = cc in omega arith)
+    by false p d = let f : badIn s t ≡ k = cc in (f, omega (arith, eqb-false (badIn s t) 0 p))
 
 -- where there is a record, its four bytes stand before the trailer
 pub found-within : (s : List ℕ) (k : ℕ) (r : Record) → recordAt s k ≡ Found r → 4 * k + 4 + trailerLength ≤ length s

@@ -52,3 +52,30 @@ firstBad-none s N start k (suc left) e i l m = go (isEnd (recordIn s (start + 4 
         → isEnd (recordIn s (start + 4 * i) N) ≡ false
     go true p d ih = absurd (omega arith)
     go false p d ih = dite (decLt k i) (λ h. ih d i (omega arith) (omega arith)) (λ h. let f : i ≡ k = omega arith in rw f p)
+
+-- ---- where the search finds record m + 1, that one is bad and none before it is
+
+pub record FirstAt (s : List ℕ) (N start k left m : ℕ) : Type 0 where
+  pub from : k ≤ m
+  pub within : m < k + left
+  pub bad : isEnd (recordIn s (start + 4 * m) N) ≡ true
+  pub before : (i : ℕ) → k ≤ i → i < m → isEnd (recordIn s (start + 4 * i) N) ≡ false
+
+pub firstBad-at : (s : List ℕ) (N start k left m : ℕ) → firstBad s N start k left ≡ suc m → FirstAt s N start k left m
+unfolding firstBad
+firstBad-at s N start k zero m e = absurd (omega arith)
+firstBad-at s N start k (suc left) m e = go (isEnd (recordIn s (start + 4 * k) N)) refl e (firstBad-at s N start (k + 1) left m)
+  where
+    go : (t : Bool) → isEnd (recordIn s (start + 4 * k) N) ≡ t → if-else t (k + 1) (firstBad s N start (k + 1) left) ≡ suc m
+        → (firstBad s N start (k + 1) left ≡ suc m → FirstAt s N start (k + 1) left m) → FirstAt s N start k (suc left) m
+    go true p d ih =
+        let f : m ≡ k = omega arith in
+        record { from = omega arith; within = omega arith; bad = rw f p; before = λ i l h. absurd (omega arith) }
+    go false p d ih =
+        let f = ih d in
+        record {
+          from = omega (arith, f .from);
+          within = omega (arith, f .within);
+          bad = f .bad;
+          before = λ i l h. dite (decLt k i) (λ g. f .before i (omega arith) h) (λ g. let z : i ≡ k = omega arith in rw z p);
+        }
