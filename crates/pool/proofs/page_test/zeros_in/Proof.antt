@@ -1,4 +1,4 @@
--- `pool::zeros_in` meets its contract. The loop's invariant: the zeros counted so far and those from place `i` on are all the zeros, and at most `i`
+-- `pool::page_test::zeros_in` meets its contract. The loop's invariant: the zeros counted so far and those from place `i` on are all the zeros, and at most `i`
 -- are counted, so that the count does not wrap. The measure is how many pages are left. Assumes nothing.
 use mathlib.Core.Path.{_≡_}
 use mathlib.Core.Logic.{⊎-elim}
@@ -8,8 +8,8 @@ use borrow.Author.Needs.{needs}
 use lib.ListN.{take, drop}
 use Rattle.pool.specs.Parts.{zerosIn}
 use Rattle.pool.proofs.Every.{drop-take-next, drop-take-end, zerosIn-more, zerosIn-same}
-use Rattle.pool.proofs.zeros_in.Statement.{statement}
-use Rattle.pool.proofs.zeros_in.Tie as tie
+use Rattle.pool.proofs.page_test.zeros_in.Statement.{statement}
+use Rattle.pool.proofs.page_test.zeros_in.Tie as tie
 
 abbrev Inv-loop : tie.InvT-loop
 Inv-loop page frames n₀ i₀ n i = (i ≤ frames) × (n ≤ i) × (n + zerosIn (drop i (take frames page)) ≡ zerosIn (take frames page))

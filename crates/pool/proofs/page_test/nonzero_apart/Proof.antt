@@ -1,4 +1,4 @@
--- `pool::nonzero_apart` meets its contract. The loop's invariant: the flag says whether the pages before place `i` stand apart, and each of them has
+-- `pool::page_test::nonzero_apart` meets its contract. The loop's invariant: the flag says whether the pages before place `i` stand apart, and each of them has
 -- a mark at its remainder. So a page that meets no mark stands nowhere before `i`. The measure is how many pages are left. Assumes nothing.
 use mathlib.Core.Path.{_≡_, refl, sym, _∙_}
 use mathlib.Core.Logic.{⊎-elim}
@@ -8,8 +8,8 @@ use borrow.Author.Count.{below-none}
 use borrow.Author.Needs.{needs}
 use Rattle.pool.specs.Parts.{nonzeroApart}
 use Rattle.pool.proofs.Apart.{Knows, knows-more, knows-met, knows-new, nonzeroApart-twice, nonzeroApart-zero, nonzeroApart-new}
-use Rattle.pool.proofs.nonzero_apart.Statement.{statement}
-use Rattle.pool.proofs.nonzero_apart.Tie as tie
+use Rattle.pool.proofs.page_test.nonzero_apart.Statement.{statement}
+use Rattle.pool.proofs.page_test.nonzero_apart.Tie as tie
 
 abbrev Inv-loop : tie.InvT-loop
 Inv-loop page frames marks₀ ok₀ i₀ marks ok i = (i ≤ frames) × (ok ≡ nonzeroApart page i) × Knows marks page i

@@ -1,9 +1,9 @@
--- `pool::tails_right` meets its contract: each part of the answer is the answer of one call. Assumes nothing.
+-- `pool::tails::tails_right` meets its contract: each part of the answer is the answer of one call. Assumes nothing.
 use borrow.Author.Needs.{needs}
 use Rattle.pool.proofs.Decides.{test-passed, test-refuted}
 use Rattle.pool.proofs.Answers.{tails-last}
-use Rattle.pool.proofs.tails_right.Statement.{statement}
-use Rattle.pool.proofs.tails_right.Tie as tie
+use Rattle.pool.proofs.tails.tails_right.Statement.{statement}
+use Rattle.pool.proofs.tails.tails_right.Tie as tie
 
 zeros8-requires : tie.Need-zeros8-requires
 zeros8-requires c κs = search needs

@@ -1,4 +1,4 @@
--- `pool::glance_apart` meets its contract. The loop's invariant: each page before place `i` has a mark at its remainder, and where none of them met a
+-- `pool::page_test::glance_apart` meets its contract. The loop's invariant: each page before place `i` has a mark at its remainder, and where none of them met a
 -- mark, they are all different. The measure is how many pages are left. Assumes nothing.
 use mathlib.Core.Path.{_≡_, refl}
 use Prim.Native.Nat.{_-_, _≤_}
@@ -9,8 +9,8 @@ use borrow.Author.Needs.{needs}
 use borrow.Author.Tests.{eqb-true}
 use Rattle.pool.specs.Parts.{AllApart}
 use Rattle.pool.proofs.Apart.{Knows, knows-more, allApart-more}
-use Rattle.pool.proofs.glance_apart.Statement.{statement}
-use Rattle.pool.proofs.glance_apart.Tie as tie
+use Rattle.pool.proofs.page_test.glance_apart.Statement.{statement}
+use Rattle.pool.proofs.page_test.glance_apart.Tie as tie
 
 abbrev Inv-loop : tie.InvT-loop
 Inv-loop page frames marks₀ met₀ i₀ marks met i = (i ≤ frames) × (met ≡ 0 → AllApart page i) × Knows marks page i

@@ -1,4 +1,4 @@
--- `pool::frames_right` meets its contract. The three calls leave the marks of all the numbers, one list after the other; as many numbers as frames
+-- `pool::frame_test::frames_right` meets its contract. The three calls leave the marks of all the numbers, one list after the other; as many numbers as frames
 -- mark every frame only where each frame stands once. Assumes nothing.
 use mathlib.Core.Path.{ap, _∙_}
 use native.Mathlib.Omega.{arith}
@@ -7,8 +7,8 @@ use lib.ListN.{length, take}
 use lib.Seq.{length-take-le}
 use Rattle.pool.proofs.Marks.{marked-length}
 use Rattle.pool.proofs.Answers.{frames-decides}
-use Rattle.pool.proofs.frames_right.Statement.{statement}
-use Rattle.pool.proofs.frames_right.Tie as tie
+use Rattle.pool.proofs.frame_test.frames_right.Statement.{statement}
+use Rattle.pool.proofs.frame_test.frames_right.Tie as tie
 
 mark-requires : tie.Need-mark-requires
 mark-requires c κs = search needs

@@ -1,4 +1,4 @@
--- `pool::all_at_most` meets its contract. The loop's invariant: the flag, and that every page from `i` to `frames` is at most `top`, together say
+-- `pool::page_test::all_at_most` meets its contract. The loop's invariant: the flag, and that every page from `i` to `frames` is at most `top`, together say
 -- what is asked of all the first `frames` pages. The measure is how many pages are left. Assumes nothing.
 use mathlib.Core.Path.{_≡_, refl}
 use mathlib.Core.Bool.{_&&_}
@@ -9,8 +9,8 @@ use borrow.Author.Tests.{le-leb, lt-leb}
 use lib.ListN.{take, drop}
 use Rattle.pool.specs.Parts.{every, isAtMost}
 use Rattle.pool.proofs.Every.{drop-take-next, drop-take-end, every-spoilt, every-kept, every-end}
-use Rattle.pool.proofs.all_at_most.Statement.{statement}
-use Rattle.pool.proofs.all_at_most.Tie as tie
+use Rattle.pool.proofs.page_test.all_at_most.Statement.{statement}
+use Rattle.pool.proofs.page_test.all_at_most.Tie as tie
 
 abbrev Inv-loop : tie.InvT-loop
 Inv-loop page frames top ok₀ i₀ ok i =

@@ -1,4 +1,4 @@
--- `pool::all_blank` meets its contract. The loop's invariant: the frames from place `i` of the list on all have page 0 just if all n have it, since
+-- `pool::page_test::all_blank` meets its contract. The loop's invariant: the frames from place `i` of the list on all have page 0 just if all n have it, since
 -- those passed have it. The measure is how many frames are left. Assumes nothing.
 use mathlib.Core.Path.{_≡_, refl}
 use mathlib.Core.Bool.{Bool, true}
@@ -11,8 +11,8 @@ use lib.ListN.{getD, take, drop}
 use lib.Dec.{eqb}
 use Rattle.pool.specs.Parts.{blankAll}
 use Rattle.pool.proofs.Every.{drop-take-next, drop-take-end, every-spoilt, every-kept, every-end}
-use Rattle.pool.proofs.all_blank.Statement.{statement}
-use Rattle.pool.proofs.all_blank.Tie as tie
+use Rattle.pool.proofs.page_test.all_blank.Statement.{statement}
+use Rattle.pool.proofs.page_test.all_blank.Tie as tie
 
 -- the test of one frame
 abbrev blank : List ℕ → ℕ → Bool

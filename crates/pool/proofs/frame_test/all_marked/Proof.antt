@@ -1,4 +1,4 @@
--- `pool::all_marked` meets its contract. The loop's invariant: the flag, and that every place from `i` to `frames` is marked, together say what is
+-- `pool::frame_test::all_marked` meets its contract. The loop's invariant: the flag, and that every place from `i` to `frames` is marked, together say what is
 -- asked of all the first `frames` places. The measure is how many places are left. Assumes nothing.
 use mathlib.Core.Path.{_≡_, refl, ap}
 use mathlib.Core.Bool.{not, _&&_}
@@ -9,8 +9,8 @@ use borrow.Author.Tests.{eq-eqb, ne-eqb}
 use lib.ListN.{take, drop}
 use Rattle.pool.specs.Parts.{every, isSome}
 use Rattle.pool.proofs.Every.{drop-take-next, drop-take-end, every-spoilt, every-kept, every-end}
-use Rattle.pool.proofs.all_marked.Statement.{statement}
-use Rattle.pool.proofs.all_marked.Tie as tie
+use Rattle.pool.proofs.frame_test.all_marked.Statement.{statement}
+use Rattle.pool.proofs.frame_test.all_marked.Tie as tie
 
 abbrev Inv-loop : tie.InvT-loop
 Inv-loop marks frames ok₀ i₀ ok i = (i ≤ frames) × ((ok && every isSome (drop i (take frames marks))) ≡ every isSome (take frames marks))

@@ -1,4 +1,4 @@
--- `pool::mark` meets its contract. The loop's invariant: with the numbers from place `i` of the list on still to be marked, the marks come out as if
+-- `pool::frame_test::mark` meets its contract. The loop's invariant: with the numbers from place `i` of the list on still to be marked, the marks come out as if
 -- all n were marked from the start. The measure is how many numbers are left. Assumes nothing.
 use mathlib.Core.Path.{_≡_, refl}
 use Prim.Native.Nat.{_-_, _≤_}
@@ -6,8 +6,8 @@ use borrow.Author.Needs.{needs}
 use lib.ListN.{take, drop}
 use Rattle.pool.specs.Parts.{marked}
 use Rattle.pool.proofs.Every.{drop-take-next, drop-take-end}
-use Rattle.pool.proofs.mark.Statement.{statement}
-use Rattle.pool.proofs.mark.Tie as tie
+use Rattle.pool.proofs.frame_test.mark.Statement.{statement}
+use Rattle.pool.proofs.frame_test.mark.Tie as tie
 
 abbrev Inv-loop : tie.InvT-loop
 Inv-loop marks₀ list n i₀ marks i = (i ≤ n) × (marked (drop i (take n list)) marks ≡ marked (take n list) marks₀)

@@ -1,4 +1,4 @@
--- `pool::pages_right` meets its contract. Behind the first two tests, pages that are all different are right. Else right pages pass each of the four
+-- `pool::page_test::pages_right` meets its contract. Behind the first two tests, pages that are all different are right. Else right pages pass each of the four
 -- tests; where they pass, the zeros are too few for two frames that are not empty to share page 0, and no other page stands twice. Assumes nothing.
 use mathlib.Core.Path.{_≡_}
 use mathlib.Core.Bool.{true}
@@ -11,8 +11,8 @@ use Rattle.pool.specs.Parts.{every, isAtMost, blankAll, PagesRight}
 use Rattle.pool.proofs.Decides.{test-passed, test-refuted}
 use Rattle.pool.proofs.Pages.{PagesTest, pages-test, apart-pages, empty-below}
 use Rattle.pool.proofs.Answers.{pages-last}
-use Rattle.pool.proofs.pages_right.Statement.{statement}
-use Rattle.pool.proofs.pages_right.Tie as tie
+use Rattle.pool.proofs.page_test.pages_right.Statement.{statement}
+use Rattle.pool.proofs.page_test.pages_right.Tie as tie
 
 -- right pages pass
 tested : (c : tie.Start) → PagesRight (c .args .frames) (c .args .pages) (take (c .args .en) (c .args .e .now)) (c .args .page .now)
