@@ -5,9 +5,9 @@ ghost use Rattle.model.specs.Numbers.{inLimits};
 ghost use Rattle.pool.specs.Test.{soundB};
 ghost use Rattle.pool.specs.Parts.{Decides, CountsRight};
 
-pub mod frame_test;
+mod frame_test;
 pub mod page_test;
-pub mod tails;
+mod tails;
 
 use order::PLACES;
 

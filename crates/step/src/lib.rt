@@ -8,9 +8,9 @@ ghost use Rattle.model.specs.Request.{placeBy, request, flushed};
 ghost use Rattle.pool.specs.Pool.{poolOf, stateOf, Sound};
 ghost use Rattle.step.specs.Step.{costs, mostCost, stepOf};
 
-pub mod fault;
-pub mod hit;
-pub mod policy;
+mod fault;
+mod hit;
+mod policy;
 
 use model::Answer;
 use model::Op;

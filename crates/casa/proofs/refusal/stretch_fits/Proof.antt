@@ -1,7 +1,7 @@
--- `casa::stretch_fits` meets its contract: where start is within the page, n ≤ P - start says start + n ≤ P without a sum. Assumes nothing.
+-- `casa::refusal::stretch_fits` meets its contract: where start is within the page, n ≤ P - start says start + n ≤ P without a sum. Assumes nothing.
 use Rattle.casa.proofs.Verdicts.{stretch-none, stretch-past, stretch-within}
-use Rattle.casa.proofs.stretch_fits.Statement.{statement}
-use Rattle.casa.proofs.stretch_fits.Tie as tie
+use Rattle.casa.proofs.refusal.stretch_fits.Statement.{statement}
+use Rattle.casa.proofs.refusal.stretch_fits.Tie as tie
 
 returns : tie.Need-returns
 returns c = stretch-none (c .before .args .page-bytes) (c .before .args .start) (c .before .args .n) (c .if1 .taken)

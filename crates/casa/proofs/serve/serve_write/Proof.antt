@@ -1,11 +1,11 @@
--- `casa::serve_write` meets its contract: the bytes after the step are those of the definitions, and the stretch is laid over the frame. Assumes nothing.
+-- `casa::serve::serve_write` meets its contract: the bytes after the step are those of the definitions, and the stretch is laid over the frame. Assumes nothing.
 use native.Mathlib.Omega.{arith}
 use lib.ListN.{length}
 use borrow.Author.Needs.{needs}
 use Rattle.model.specs.declared.Op.the-variants.{Write}
 use Rattle.casa.proofs.Calls.{frame-in, write-served}
-use Rattle.casa.proofs.serve_write.Statement.{statement}
-use Rattle.casa.proofs.serve_write.Tie as tie
+use Rattle.casa.proofs.serve.serve_write.Statement.{statement}
+use Rattle.casa.proofs.serve.serve_write.Tie as tie
 
 serve-requires : tie.Need-serve-requires
 serve-requires c κs = search needs

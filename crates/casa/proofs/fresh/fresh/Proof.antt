@@ -1,8 +1,8 @@
--- `casa::fresh` meets its contract: its fields are, one by one, those of the pool that holds the opened state. Assumes nothing.
+-- `casa::fresh::fresh` meets its contract: its fields are, one by one, those of the pool that holds the opened state. Assumes nothing.
 use borrow.Author.Needs.{needs}
 use Rattle.casa.proofs.Opening.{fresh-is}
-use Rattle.casa.proofs.fresh.Statement.{statement}
-use Rattle.casa.proofs.fresh.Tie as tie
+use Rattle.casa.proofs.fresh.fresh.Statement.{statement}
+use Rattle.casa.proofs.fresh.fresh.Tie as tie
 
 all-frames-requires : tie.Need-all-frames-requires
 all-frames-requires c κs = search needs

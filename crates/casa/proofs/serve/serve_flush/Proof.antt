@@ -1,10 +1,10 @@
--- `casa::serve_flush` meets its contract: the frames of D and their pages lie within the lent bytes, and D goes before C. Assumes nothing.
+-- `casa::serve::serve_flush` meets its contract: the frames of D and their pages lie within the lent bytes, and D goes before C. Assumes nothing.
 use lib.ListN.{length}
 use borrow.Author.Needs.{needs}
 use Rattle.pool.proofs.Form.{dirty-holds}
 use Rattle.casa.proofs.Calls.{dirty-in, flush-served}
-use Rattle.casa.proofs.serve_flush.Statement.{statement}
-use Rattle.casa.proofs.serve_flush.Tie as tie
+use Rattle.casa.proofs.serve.serve_flush.Statement.{statement}
+use Rattle.casa.proofs.serve.serve_flush.Tie as tie
 
 write-back-all-requires : tie.Need-write-back-all-requires
 write-back-all-requires c κs =

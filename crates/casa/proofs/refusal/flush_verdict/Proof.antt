@@ -1,4 +1,4 @@
--- `casa::flush_verdict` meets its contract. Each return is the row of the table whose condition holds, with those before it false. Assumes nothing.
+-- `casa::refusal::flush_verdict` meets its contract. Each return is the row of the table whose condition holds, with those before it false. Assumes nothing.
 use mathlib.Core.Path.{sym, _∙_}
 use borrow.Author.Needs.{needs}
 use borrow.Author.Tests.{not-true, not-false}
@@ -6,8 +6,8 @@ use Rattle.pool.specs.Pool.{stateOf}
 use Rattle.pool.specs.Test.{soundB}
 use Rattle.casa.proofs.Verdicts.{flush-broken, flush-memory, flush-spent, flush-fine}
 use Rattle.casa.proofs.Calls.{sound-is}
-use Rattle.casa.proofs.flush_verdict.Statement.{statement}
-use Rattle.casa.proofs.flush_verdict.Tie as tie
+use Rattle.casa.proofs.refusal.flush_verdict.Statement.{statement}
+use Rattle.casa.proofs.refusal.flush_verdict.Tie as tie
 
 sound-requires : tie.Need-sound-requires
 sound-requires c κs = search needs

@@ -1,4 +1,4 @@
--- `casa::all_frames` meets its contract. The loop's invariant: the list holds k - 1, .., 0; a turn puts k before them. The measure is what is left of n.
+-- `casa::fresh::all_frames` meets its contract. The loop's invariant: the list holds k - 1, .., 0; a turn puts k before them. The measure is what is left of n.
 -- Assumes nothing.
 use mathlib.Core.Path.{_≡_}
 use Prim.Native.Nat.{_≤_, _-_}
@@ -9,8 +9,8 @@ use borrow.Author.Needs.{needs}
 use Rattle.order.proofs.Places.{holds-none, holds-cons}
 use Rattle.order.specs.Lists.{downFrom}
 use Rattle.order.specs.Places.{places, Holds}
-use Rattle.casa.proofs.all_frames.Statement.{statement}
-use Rattle.casa.proofs.all_frames.Tie as tie
+use Rattle.casa.proofs.fresh.all_frames.Statement.{statement}
+use Rattle.casa.proofs.fresh.all_frames.Tie as tie
 
 abbrev Inv-loop : tie.InvT-loop
 Inv-loop n list₀ k₀ list k = (length list ≡ places) × (k ≤ n) × Holds list k (downFrom k)

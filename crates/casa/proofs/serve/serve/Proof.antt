@@ -1,9 +1,9 @@
--- `casa::serve` meets its contract: the step's frame, page and victim lie within the lent bytes, since the state is good. Assumes nothing.
+-- `casa::serve::serve` meets its contract: the step's frame, page and victim lie within the lent bytes, since the state is good. Assumes nothing.
 use lib.ListN.{length}
 use borrow.Author.Needs.{needs}
 use Rattle.casa.proofs.Calls.{frame-in, wanted-in, victim-in}
-use Rattle.casa.proofs.serve.Statement.{statement}
-use Rattle.casa.proofs.serve.Tie as tie
+use Rattle.casa.proofs.serve.serve.Statement.{statement}
+use Rattle.casa.proofs.serve.serve.Tie as tie
 
 request-requires : tie.Need-request-requires
 request-requires c κs = search needs

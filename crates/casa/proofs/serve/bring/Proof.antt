@@ -1,11 +1,11 @@
--- `casa::bring` meets its contract, by cases on the answer: a hit leaves the bytes, a fault fetches, and one with a dirty victim replaces. Assumes nothing.
+-- `casa::serve::bring` meets its contract, by cases on the answer: a hit leaves the bytes, a fault fetches, and one with a dirty victim replaces. Assumes nothing.
 use mathlib.Core.Path.{refl, ap, _∙_}
 use borrow.Author.Needs.{needs}
 use Rattle.model.specs.declared.Answer.the-variants.{Fault}
 use Rattle.model.specs.declared.Victim.the-variants.{None, Clean}
 use Rattle.casa.proofs.Brought.{brought-fetched, brought-replaced}
-use Rattle.casa.proofs.bring.Statement.{statement}
-use Rattle.casa.proofs.bring.Tie as tie
+use Rattle.casa.proofs.serve.bring.Statement.{statement}
+use Rattle.casa.proofs.serve.bring.Tie as tie
 
 enum-told : tie.Need-enum-told
 enum-told c = search needs

@@ -1,4 +1,4 @@
--- `casa::request_verdict` meets its contract. Each return is the row of the table whose condition holds, with those before it false; a sound pool's numbers
+-- `casa::refusal::request_verdict` meets its contract. Each return is the row of the table whose condition holds, with those before it false; a sound pool's numbers
 -- are small enough for the products of the size test. Assumes nothing.
 use mathlib.Core.Path.{sym, _∙_}
 use borrow.Author.Needs.{needs}
@@ -7,8 +7,8 @@ use Rattle.pool.specs.Pool.{stateOf}
 use Rattle.pool.specs.Test.{soundB}
 use Rattle.casa.proofs.Verdicts.{request-broken, request-memory, request-page, request-bytes, request-spent, request-fine}
 use Rattle.casa.proofs.Calls.{sound-is}
-use Rattle.casa.proofs.request_verdict.Statement.{statement}
-use Rattle.casa.proofs.request_verdict.Tie as tie
+use Rattle.casa.proofs.refusal.request_verdict.Statement.{statement}
+use Rattle.casa.proofs.refusal.request_verdict.Tie as tie
 
 sound-requires : tie.Need-sound-requires
 sound-requires c κs = search needs

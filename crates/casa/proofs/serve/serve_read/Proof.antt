@@ -1,11 +1,11 @@
--- `casa::serve_read` meets its contract: the bytes after the step are those of the definitions, and the frame is copied out. Assumes nothing.
+-- `casa::serve::serve_read` meets its contract: the bytes after the step are those of the definitions, and the frame is copied out. Assumes nothing.
 use native.Mathlib.Omega.{arith}
 use lib.ListN.{length}
 use borrow.Author.Needs.{needs}
 use Rattle.model.specs.declared.Op.the-variants.{Read}
 use Rattle.casa.proofs.Calls.{frame-in, read-served}
-use Rattle.casa.proofs.serve_read.Statement.{statement}
-use Rattle.casa.proofs.serve_read.Tie as tie
+use Rattle.casa.proofs.serve.serve_read.Statement.{statement}
+use Rattle.casa.proofs.serve.serve_read.Tie as tie
 
 serve-requires : tie.Need-serve-requires
 serve-requires c κs = search needs

@@ -1,0 +1,61 @@
+// Whether a call is refused, and why.
+ghost use mathlib.Core.Path.{_≡_};
+ghost use Rattle.model.specs.Refusals.{requestVerdict, flushVerdict, stretchFits};
+ghost use Rattle.pool.specs.Pool.{stateOf};
+ghost use Rattle.pool.specs.Test.{soundB};
+use model::Refusal;
+use model::Verdict;
+use pool::Pool;
+
+// So many calls are served in one opening.
+const MOST_SERVED: u64 = 1000000000;
+
+// Of a read or a write: `m` bytes of frame memory and `n` of store are lent, and `fit` says whether the caller's own bytes fit.
+pub fn request_verdict(pool: Pool, m: usize, n: usize, page: usize, fit: bool) -> Verdict
+    ensures { λ r. ⌜ r ≡ requestVerdict (soundB pool) (stateOf pool) m n page fit ⌝ }
+{
+    if !pool::sound(pool) {
+        return Verdict::Refused(Refusal::BrokenPool);
+    }
+    if !pages::sizes_match(m, n, pool.frames, pool.pages, pool.page_bytes) {
+        return Verdict::Refused(Refusal::WrongMemory);
+    }
+    if pool.pages <= page {
+        return Verdict::Refused(Refusal::NoSuchPage);
+    }
+    if !fit {
+        return Verdict::Refused(Refusal::WrongBytes);
+    }
+    if MOST_SERVED <= pool.served {
+        return Verdict::Refused(Refusal::Spent);
+    }
+    Verdict::Fine
+}
+
+pub fn flush_verdict(pool: Pool, m: usize, n: usize) -> Verdict
+    ensures { λ r. ⌜ r ≡ flushVerdict (soundB pool) (stateOf pool) m n ⌝ }
+{
+    if !pool::sound(pool) {
+        return Verdict::Refused(Refusal::BrokenPool);
+    }
+    if !pages::sizes_match(m, n, pool.frames, pool.pages, pool.page_bytes) {
+        return Verdict::Refused(Refusal::WrongMemory);
+    }
+    if MOST_SERVED <= pool.served {
+        return Verdict::Refused(Refusal::Spent);
+    }
+    Verdict::Fine
+}
+
+// Whether a stretch has bytes and ends within the page: start + length as whole numbers, without a sum that could wrap.
+pub fn stretch_fits(page_bytes: usize, start: usize, n: usize) -> bool
+    ensures { λ r. ⌜ r ≡ stretchFits «page_bytes» start n ⌝ }
+{
+    if n == 0 {
+        return false;
+    }
+    if page_bytes < start {
+        return false;
+    }
+    n <= page_bytes - start
+}

@@ -1,0 +1,124 @@
+// Calls that are not refused.
+ghost use mathlib.Core.Path.{_≡_};
+ghost use Prim.Native.Nat.{_+_, _≤_};
+ghost use lib.ListN.{length};
+ghost use Rattle.pages.specs.Pages.{InPages};
+ghost use Rattle.model.specs.Bytes.{brought};
+ghost use Rattle.model.specs.Request.{request};
+ghost use Rattle.pool.specs.Pool.{stateOf, Sound};
+ghost use Rattle.step.specs.Step.{stepOf};
+ghost use Rattle.casa.specs.Calls.{memory, costsIn, AnswerIn, Lent, readServed, readLeft, writeServed, writeLeft, flushServed, flushLeft};
+use crate::Flushed;
+use crate::Served;
+use model::Answer;
+use model::Flushing;
+use model::Op;
+use model::Victim;
+use pool::Pool;
+use step::Step;
+
+// The bytes' part of a request: a fault fetches the page, after the write-back of a dirty victim.
+fn bring(
+    frames: &mut [u8],
+    store: &mut [u8],
+    size: usize,
+    frame: usize,
+    page: usize,
+    answer: Answer,
+)
+    requires { ⌜ InPages size frame (length (now frames)) ⌝ }
+    requires { ⌜ InPages size page (length (now store)) ⌝ }
+    requires { ⌜ AnswerIn size answer (length (now store)) ⌝ }
+    ensures { λ _. ⌜ memory (now (frames .exit)) (now (store .exit)) ≡ brought size frame page answer (memory (now (frames .entry)) (now (store .entry))) ⌝ }
+{
+    match answer {
+        Answer::Refused(_) => {}
+        Answer::Hit => {}
+        Answer::Fault(victim) => match victim {
+            Victim::None => {
+                pages::fetch(frames, frame, store, page, size);
+            }
+            Victim::Clean(_) => {
+                pages::fetch(frames, frame, store, page, size);
+            }
+            Victim::Dirty(old) => {
+                pages::replace(frames, frame, store, old, page, size);
+            }
+        },
+    }
+}
+
+// One request whole: the pool's part and the bytes' part.
+fn serve(pool: Pool, page: usize, frames: &mut [u8], store: &mut [u8], op: Op) -> Step
+    requires { ⌜ Sound pool ⌝ }
+    requires { ⌜ Lent pool (length (now frames)) (length (now store)) page ⌝ }
+    ensures { λ r. ⌜ r ≡ stepOf (request op (costsIn pool) (stateOf pool) page) ⌝ }
+    ensures { λ r. ⌜ memory (now (frames .exit)) (now (store .exit)) ≡ brought (pool .«page_bytes») (r .frame) page (r .answer) (memory (now (frames .entry)) (now (store .entry))) ⌝ }
+{
+    let size = pool.page_bytes;
+    let done = step::request(pool, pool.read_cost, pool.write_cost, page, op);
+    let frame = done.frame;
+    let answer = done.answer;
+    bring(frames, store, size, frame, page, answer);
+    done
+}
+
+pub fn serve_read(
+    pool: Pool,
+    page: usize,
+    frames: &mut [u8],
+    store: &mut [u8],
+    out: &mut [u8],
+) -> Served
+    requires { ⌜ Sound pool ⌝ }
+    requires { ⌜ Lent pool (length (now frames)) (length (now store)) page ⌝ }
+    requires { ⌜ length (now out) ≡ pool .«page_bytes» ⌝ }
+    ensures { λ r. ⌜ readLeft r (now (frames .exit)) (now (store .exit)) (now (out .exit)) ≡ readServed pool page (now (frames .entry)) (now (store .entry)) ⌝ }
+{
+    let size = pool.page_bytes;
+    let read = serve(pool, page, frames, store, Op::Read);
+    let next = read.pool;
+    let frame = read.frame;
+    let answer = read.answer;
+    pages::copy_out(out, frames, frame, size);
+    Served { pool: next, answer }
+}
+
+pub fn serve_write(
+    pool: Pool,
+    page: usize,
+    start: usize,
+    bytes: &[u8],
+    frames: &mut [u8],
+    store: &mut [u8],
+) -> Served
+    requires { ⌜ Sound pool ⌝ }
+    requires { ⌜ Lent pool (length (now frames)) (length (now store)) page ⌝ }
+    requires { ⌜ start + length (now bytes) ≤ pool .«page_bytes» ⌝ }
+    ensures { λ r. ⌜ writeLeft r (now (frames .exit)) (now (store .exit)) ≡ writeServed pool page start (now (bytes .entry)) (now (frames .entry)) (now (store .entry)) ⌝ }
+{
+    let size = pool.page_bytes;
+    let wrote = serve(pool, page, frames, store, Op::Write);
+    let next = wrote.pool;
+    let frame = wrote.frame;
+    let answer = wrote.answer;
+    pages::overlay(frames, frame, start, bytes, size);
+    Served { pool: next, answer }
+}
+
+pub fn serve_flush(pool: Pool, frames: &[u8], store: &mut [u8]) -> Flushed
+    requires { ⌜ Sound pool ⌝ }
+    requires { ⌜ Lent pool (length (now frames)) (length (now store)) 0 ⌝ }
+    ensures { λ r. ⌜ flushLeft r (now (store .exit)) ≡ flushServed pool (now (frames .entry)) (now (store .entry)) ⌝ }
+{
+    let size = pool.page_bytes;
+    let n = pool.dirty_len;
+    let dirty = pool.dirty;
+    let page = pool.page;
+    pages::write_back_all(store, frames, dirty, n, page, size);
+    let next = step::flush_lists(pool);
+    Flushed {
+        pool: next,
+        answer: Flushing::Wrote(n),
+    }
+}
