@@ -31,18 +31,7 @@ fn end() {
 
 fn refused(why: Refusal) {
     word(b" refused");
-    match why {
-        Refusal::OutOfLimits => number(1),
-        Refusal::BrokenPool => number(2),
-        Refusal::WrongMemory => number(3),
-        Refusal::NoSuchPage => number(4),
-        Refusal::WrongBytes => number(5),
-        Refusal::Spent => number(6),
-        Refusal::NotATrace => number(7),
-        Refusal::BadRecord(_) => number(8),
-        Refusal::LongFile => number(9),
-        Refusal::LargePool => number(10),
-    }
+    number(model::number_of(why));
 }
 
 fn tell_victim(victim: Victim) {

@@ -1,4 +1,7 @@
-// The scope's words. No function stands here: specs/ says what is right, and proofs/ shows what follows from it.
+// The scope's words, and the numbers of its refusals for programs that print them. No other function stands here: specs/ says what is right, and proofs/ shows
+// what follows from it.
+ghost use mathlib.Core.Path.{_≡_};
+ghost use Rattle.model.specs.Words.{numberOf};
 
 // What a request asks of a page.
 pub enum Op {
@@ -70,4 +73,22 @@ pub enum Flushing {
 pub enum Costing {
     Refused(Refusal),
     Total(u64),
+}
+
+// The scope's number of a refusal.
+pub fn number_of(why: Refusal) -> u64
+    ensures { λ r. ⌜ r ≡ numberOf why ⌝ }
+{
+    match why {
+        Refusal::OutOfLimits => 1,
+        Refusal::BrokenPool => 2,
+        Refusal::WrongMemory => 3,
+        Refusal::NoSuchPage => 4,
+        Refusal::WrongBytes => 5,
+        Refusal::Spent => 6,
+        Refusal::NotATrace => 7,
+        Refusal::BadRecord(_) => 8,
+        Refusal::LongFile => 9,
+        Refusal::LargePool => 10,
+    }
 }

@@ -33,30 +33,18 @@ fn number(n: u64) {
     io::print_decimal(STDOUT_FILENO, n);
 }
 
-fn refuse(n: u64) {
-    word(b"refused");
-    number(n);
-    word(b"\n");
-}
-
 // A refusal by the scope's number; 8 names its record.
 fn refused(why: Refusal) {
+    word(b"refused");
+    number(model::number_of(why));
     match why {
-        Refusal::OutOfLimits => refuse(1),
-        Refusal::BrokenPool => refuse(2),
-        Refusal::WrongMemory => refuse(3),
-        Refusal::NoSuchPage => refuse(4),
-        Refusal::WrongBytes => refuse(5),
-        Refusal::Spent => refuse(6),
-        Refusal::NotATrace => refuse(7),
         Refusal::BadRecord(record) => {
-            word(b"refused 8 at");
+            word(b" at");
             number(record as u64);
-            word(b"\n");
         }
-        Refusal::LongFile => refuse(9),
-        Refusal::LargePool => refuse(10),
+        _ => {}
     }
+    word(b"\n");
 }
 
 // ---- a line

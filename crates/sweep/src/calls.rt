@@ -31,18 +31,7 @@ pub const TOTAL: usize = 16;
 pub const KINDS: usize = 17;
 
 fn said_refusal(why: Refusal) -> Said {
-    let kind = match why {
-        Refusal::OutOfLimits => 1,
-        Refusal::BrokenPool => 2,
-        Refusal::WrongMemory => 3,
-        Refusal::NoSuchPage => 4,
-        Refusal::WrongBytes => 5,
-        Refusal::Spent => 6,
-        Refusal::NotATrace => 7,
-        Refusal::BadRecord(_) => 8,
-        Refusal::LongFile => 9,
-        Refusal::LargePool => 10,
-    };
+    let kind = model::number_of(why) as usize;
     Said { kind, value: 0 }
 }
 
