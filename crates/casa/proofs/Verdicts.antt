@@ -1,6 +1,6 @@
--- Which row refuses: each row of a table, where its condition holds and those before it do not; and whether a stretch fits.
+-- Which row refuses: each row of a table, where its condition holds and those before it do not; a flush as a request; and whether a stretch fits.
 -- Assumes nothing.
-use mathlib.Core.Path.{_≡_}
+use mathlib.Core.Path.{_≡_, refl}
 use mathlib.Core.Bool.{Bool, true, false}
 use mathlib.Core.Logic.{dite}
 use Prim.Native.Nat.{ℕ, _+_, _-_, _≤_, _<_}
@@ -47,24 +47,14 @@ module _ (sound : Bool) (s : State) (m n : ℕ) where
       unfolding requestVerdict
       request-fine c d e = rw (a, b, lt-leb _ _ c, d, lt-leb _ _ e)
 
-  -- ---- a flush
+-- ---- a flush
 
-  pub flush-broken : sound ≡ false → Refused BrokenPool ≡ flushVerdict sound s m n
-  unfolding flushVerdict
-  flush-broken a = rw a
-
-  pub flush-memory : sound ≡ true → sized s m n ≡ false → Refused WrongMemory ≡ flushVerdict sound s m n
-  unfolding flushVerdict
-  flush-memory a b = rw (a, b)
-
-  module _ (a : sound ≡ true) (b : sized s m n ≡ true) where
-    pub flush-spent : mostServed ≤ s .counts .served → Refused Spent ≡ flushVerdict sound s m n
-    unfolding flushVerdict
-    flush-spent e = rw (a, b, le-leb _ _ e)
-
-    pub flush-fine : s .counts .served < mostServed → Fine ≡ flushVerdict sound s m n
-    unfolding flushVerdict
-    flush-fine e = rw (a, b, lt-leb _ _ e)
+-- page 0 is in every store that has a page, and no bytes are wrong, so these two rows never refuse
+pub flush-as-request : (sound : Bool) (s : State) (m n : ℕ) → (sound ≡ true → 0 < s .numbers .N)
+    → requestVerdict sound s m n 0 true ≡ flushVerdict sound s m n
+unfolding requestVerdict flushVerdict
+flush-as-request false s m n h = refl
+flush-as-request true s m n h = rw (lt-leb (s .numbers .N) 0 (h refl))
 
 -- ---- a stretch of n bytes from `start` on
 

@@ -32,19 +32,11 @@ pub fn request_verdict(pool: Pool, m: usize, n: usize, page: usize, fit: bool) -
     Verdict::Fine
 }
 
+// A flush names no page and no bytes: it is refused as a fitting request for page 0 is, which every sound pool has.
 pub fn flush_verdict(pool: Pool, m: usize, n: usize) -> Verdict
     ensures { λ r. ⌜ r ≡ flushVerdict (soundB pool) (stateOf pool) m n ⌝ }
 {
-    if !pool::sound(pool) {
-        return Verdict::Refused(Refusal::BrokenPool);
-    }
-    if !pages::sizes_match(m, n, pool.frames, pool.pages, pool.page_bytes) {
-        return Verdict::Refused(Refusal::WrongMemory);
-    }
-    if MOST_SERVED <= pool.served {
-        return Verdict::Refused(Refusal::Spent);
-    }
-    Verdict::Fine
+    request_verdict(pool, m, n, 0, true)
 }
 
 // Whether a stretch has bytes and ends within the page: start + length as whole numbers, without a sum that could wrap.

@@ -1,9 +1,11 @@
--- The test on the numbers says what the inequalities say. Assumes nothing.
-use mathlib.Core.Path.{_≡_}
-use mathlib.Core.Bool.{Bool, true, _&&_}
+-- The test on the numbers says what the inequalities say; and which numbers are meant by those that are given. Assumes nothing.
+use mathlib.Core.Path.{_≡_, refl}
+use mathlib.Core.Bool.{Bool, true, false, _&&_}
 use Prim.Native.Nat.{ℕ, _≤_}
-use borrow.Author.Tests.{leb-true, le-leb}
-use Rattle.model.specs.Numbers.{Numbers, between, inLimits, Limits}
+use native.Mathlib.Omega.{arith}
+use lib.Dec.{eqb}
+use borrow.Author.Tests.{leb-true, le-leb, eqb-true, eq-eqb}
+use Rattle.model.specs.Numbers.{Numbers, if-else, between, inLimits, Limits, withUsualDrive, meant}
 use Rattle.model.proofs.Refusals.{and-both}
 
 both-and : {s t : Bool} → s ≡ true → t ≡ true → (s && t) ≡ true
@@ -47,3 +49,31 @@ hold-limits n l =
     (both-and (means-between 16 (n .P) 4096 (l .P-low) (l .P-high))
     (both-and (means-between 1 (n .N) 65536 (l .N-low) (l .N-high))
     (both-and (means-between 1 (n .r) 1000 (l .r-low) (l .r-high)) (means-between 1 (n .w) 1000 (l .w-low) (l .w-high)))))
+
+-- ---- the numbers that are meant
+
+pub meant-usual : (n : Numbers) → n .r ≡ 0 → n .w ≡ 0 → meant n ≡ withUsualDrive n
+unfolding meant
+meant-usual n e f = rw (eq-eqb _ _ e, eq-eqb _ _ f)
+
+pub meant-given : (n : Numbers) → (n .r ≡ 0 → n .w ≡ 0 → ⊥) → meant n ≡ n
+unfolding meant
+meant-given n h = go (eqb (n .r) 0 && eqb (n .w) 0) refl
+  where
+    go : (t : Bool) → (eqb (n .r) 0 && eqb (n .w) 0) ≡ t → if-else t (withUsualDrive n) n ≡ n
+    go true p = let z = and-both _ _ p in absurd (h (eqb-true (n .r) 0 (z .0)) (eqb-true (n .w) 0 (z .1)))
+    go false p = refl
+
+-- where the numbers that are meant are in their limits, those that are given are not above them
+pub meant-limits : (n : Numbers) → inLimits (meant n) ≡ true
+    → (n .b ≤ 64) × (n .P ≤ 4096) × (n .N ≤ 65536) × (n .r ≤ 1000) × (n .w ≤ 1000)
+unfolding meant
+meant-limits n e = go (eqb (n .r) 0 && eqb (n .w) 0) refl e
+  where
+    go : (t : Bool) → (eqb (n .r) 0 && eqb (n .w) 0) ≡ t → inLimits (if-else t (withUsualDrive n) n) ≡ true
+        → (n .b ≤ 64) × (n .P ≤ 4096) × (n .N ≤ 65536) × (n .r ≤ 1000) × (n .w ≤ 1000)
+    go true p h =
+        let l = limits-hold (withUsualDrive n) h in
+        let z = and-both _ _ p in
+        (l .b-high, l .P-high, l .N-high, omega (arith, eqb-true (n .r) 0 (z .0)), omega (arith, eqb-true (n .w) 0 (z .1)))
+    go false p h = let l = limits-hold n h in (l .b-high, l .P-high, l .N-high, l .r-high, l .w-high)

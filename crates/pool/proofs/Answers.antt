@@ -10,9 +10,10 @@ use native.Mathlib.Omega.{arith}
 use mathlib.Core.List.{List, _++_}
 use lib.ListN.{length, take, drop, replicate}
 use lib.Dec.{eqb, leb}
+use Rattle.order.specs.Count.{count}
 use Rattle.order.specs.Places.{places}
 use Rattle.model.specs.Numbers.{Numbers, unit, mostServed, inLimits, Limits}
-use Rattle.pool.specs.Parts.{Decides, every, isZero, isSome, isAtMost, zerosIn, marked, blankAll, nonzeroApart, CountsRight, TailsRight, FramesRight, EmptyRight, PagesRight}
+use Rattle.pool.specs.Parts.{Decides, every, isZero, isSome, isAtMost, marked, blankAll, nonzeroApart, CountsRight, TailsRight, FramesRight, EmptyRight, PagesRight}
 use Rattle.pool.specs.Pool.{Sound}
 use Rattle.pool.specs.Test.{soundB}
 use Rattle.pool.specs.declared.Pool.{Pool}
@@ -64,7 +65,7 @@ frames-decides b E C D small sum m1 m2 m3 e1 e2 e3 t e =
 -- ---- pages
 
 pub pages-last : (b N : ℕ) (E page : List ℕ) → 1 ≤ N → b ≤ length page → EmptyRight b E
-    → every (isAtMost (N - 1)) (take b page) ≡ true → blankAll page E ≡ true → zerosIn (take b page) ≤ length E + 1
+    → every (isAtMost (N - 1)) (take b page) ≡ true → blankAll page E ≡ true → count 0 (take b page) ≤ length E + 1
     → (t : Bool) → t ≡ nonzeroApart page b → Decides t (PagesRight b N E page)
 pages-last b N E page some long right low blank few t e =
     decides-iff t

@@ -2,7 +2,7 @@
 --     drop-next, drop-take-next, drop-take-end    what a loop at place i has still to read: the element there and what is behind it, or nothing
 --     every-spoilt, every-kept, every-end    one turn of a loop that keeps in a flag whether all elements so far have passed
 --     every-means, every-of    every element passes: place by place
---     zerosIn-more, zerosIn-same    one turn of a loop that counts zeros
+--     zeros-more, zeros-same    one turn of a loop that counts zeros
 -- Assumes nothing.
 use mathlib.Core.Path.{_≡_, refl, sym, _∙_}
 use mathlib.Core.Bool.{Bool, true, false, _&&_, and-true, and-false, and-eq-true-iff}
@@ -15,7 +15,8 @@ use mathlib.Core.List.{List, [], _∷_}
 use lib.ListN.{length, getD, take, drop, length-take, drop-of-length-le}
 use lib.Seq.{drop-cons, getD-take}
 use borrow.Author.Tests.{eq-eqb, ne-eqb}
-use Rattle.pool.specs.Parts.{every, zerosIn}
+use Rattle.order.specs.Count.{count}
+use Rattle.pool.specs.Parts.{every}
 
 -- ---- what is still to be read
 
@@ -55,9 +56,9 @@ module _ (t : ℕ → Bool) where
 
 -- ---- a count of zeros
 
-module _ {xs : List ℕ} {x : ℕ} {rest : List ℕ} (n all : ℕ) (e : xs ≡ x ∷ rest) (k : n + zerosIn xs ≡ all) where
-  pub zerosIn-more : x ≡ 0 → n + 1 + zerosIn rest ≡ all
-  zerosIn-more z = omega (arith, rw (e, eq-eqb x 0 z) at k)
+module _ {xs : List ℕ} {x : ℕ} {rest : List ℕ} (n all : ℕ) (e : xs ≡ x ∷ rest) (k : n + count 0 xs ≡ all) where
+  pub zeros-more : x ≡ 0 → n + 1 + count 0 rest ≡ all
+  zeros-more z = omega (arith, rw (e, eq-eqb x 0 z) at k)
 
-  pub zerosIn-same : x ≢ 0 → n + zerosIn rest ≡ all
-  zerosIn-same z = omega (arith, rw (e, ne-eqb x 0 z) at k)
+  pub zeros-same : x ≢ 0 → n + count 0 rest ≡ all
+  zeros-same z = omega (arith, rw (e, ne-eqb x 0 z) at k)

@@ -10,16 +10,16 @@ use mathlib.Core.Bool.{Bool, true, false}
 use Prim.Native.Nat.{ℕ, zero, suc, _+_, _-_, _≤_, _<_}
 use native.Mathlib.Decide.{decLt, ℕ-discrete}
 use native.Mathlib.Omega.{arith}
-use mathlib.Core.List.{List, [], _∷_, _++_}
+use mathlib.Core.List.{List, _∷_}
 use lib.ListN.{length, getD, take}
 use lib.Seq.{take-suc, getD-take, length-take-le}
 use lib.Dec.{eqb}
 use borrow.Author.Tests.{eq-eqb, ne-eqb}
 use Rattle.order.specs.Count.{bit, count}
 use Rattle.order.specs.Lists.{downFrom}
-use Rattle.order.proofs.Count.{bit-other, count-downFrom-below, count-downFrom-above, count-below, count-length-le}
+use Rattle.order.proofs.Count.{bit-other, count-append, count-downFrom-below, count-downFrom-above, count-below, count-length-le}
 use Rattle.model.specs.Numbers.{if-else}
-use Rattle.pool.specs.Parts.{every, isZero, isAtMost, zerosIn, blankAll, nonzeroApart, AllApart, EmptyRight, PagesRight}
+use Rattle.pool.specs.Parts.{every, isAtMost, blankAll, nonzeroApart, AllApart, EmptyRight, PagesRight}
 use Rattle.pool.proofs.Apart.{nonzeroApart-means, nonzeroApart-of}
 use Rattle.pool.proofs.Counting.{count-cons-le, count-more, keep, keep-in, keep-out}
 use Rattle.pool.proofs.Exact.{Exact, exact-eqb, exact-leb, exact-every, exact-places}
@@ -30,17 +30,13 @@ abbrev blanks : List ℕ → ℕ → List ℕ
 blanks page b = keep (λ f. eqb (getD page f 0) 0) (downFrom b)
 
 module _ (page : List ℕ) where
-  zerosIn-tail : (xs : List ℕ) (x : ℕ) → zerosIn (xs ++ (x ∷ [])) ≡ bit (isZero x) + zerosIn xs
-  zerosIn-tail [] x = refl
-  zerosIn-tail (y ∷ xs) x = omega (arith, zerosIn-tail xs x)
-
-  blanks-length : (b : ℕ) → b ≤ length page → length (blanks page b) ≡ zerosIn (take b page)
+  blanks-length : (b : ℕ) → b ≤ length page → length (blanks page b) ≡ count 0 (take b page)
   blanks-length zero h = refl
   blanks-length (suc b) h =
-      rw (take-suc page b 0 h, zerosIn-tail (take b page)) (go (eqb (getD page b 0) 0) (blanks-length b (omega arith)))
+      rw (take-suc page b 0 h, count-append 0 (take b page)) (go (eqb (getD page b 0) 0) (blanks-length b (omega arith)))
     where
-      go : (s : Bool) → length (blanks page b) ≡ zerosIn (take b page)
-          → length (if-else s (b ∷ blanks page b) (blanks page b)) ≡ bit s + zerosIn (take b page)
+      go : (s : Bool) → length (blanks page b) ≡ count 0 (take b page)
+          → length (if-else s (b ∷ blanks page b) (blanks page b)) ≡ count 0 (take b page) + (bit s + 0)
       go true ih = omega arith
       go false ih = omega arith
 
@@ -60,7 +56,7 @@ module _ (page : List ℕ) where
 pub record PagesTest (b N : ℕ) (E page : List ℕ) : Type 0 where
   pub low : every (isAtMost (N - 1)) (take b page) ≡ true
   pub blank : blankAll page E ≡ true
-  pub few : zerosIn (take b page) ≤ length E + 1
+  pub few : count 0 (take b page) ≤ length E + 1
   pub apart : nonzeroApart page b ≡ true
 
 module _ (b N : ℕ) (E page : List ℕ) (some : 1 ≤ N) (long : b ≤ length page) where

@@ -6,7 +6,7 @@ use mathlib.Core.Bool.{Bool, true, false, not, _&&_, _||_}
 use mathlib.Core.List.{List, [], _∷_}
 use lib.Dec.{eqb, leb}
 use lib.ListN.{getD, set, drop}
-use Rattle.order.specs.Count.{bit, count}
+use Rattle.order.specs.Count.{count}
 use Rattle.model.specs.Numbers.{unit, mostServed}
 
 -- r says whether A holds
@@ -29,10 +29,6 @@ isSome x = not (eqb x 0)
 
 abbrev pub isAtMost : ℕ → ℕ → Bool
 isAtMost top x = leb x top
-
-abbrev pub zerosIn : List ℕ → ℕ
-zerosIn [] = 0
-zerosIn (x ∷ xs) = bit (isZero x) + zerosIn xs
 
 -- 1 at each place that the list names
 abbrev pub marked : List ℕ → List ℕ → List ℕ

@@ -4,7 +4,8 @@ ghost use mathlib.Core.Bool.{true};
 ghost use Prim.Native.Nat.{ℕ, _≤_, _<_};
 ghost use lib.ListN.{length, getD, take};
 ghost use Rattle.order.specs.Places.{places};
-ghost use Rattle.pool.specs.Parts.{Decides, every, isAtMost, zerosIn, hasBefore, nonzeroApart, blankAll, AllApart, EmptyRight, PagesRight};
+ghost use Rattle.order.specs.Count.{count};
+ghost use Rattle.pool.specs.Parts.{Decides, every, isAtMost, hasBefore, nonzeroApart, blankAll, AllApart, EmptyRight, PagesRight};
 use order::PLACES;
 
 // Whether the first `frames` pages are at most `top`.
@@ -26,7 +27,7 @@ fn all_at_most(page: &[u16; PLACES], frames: usize, top: u16) -> bool
 // How many of the first `frames` pages are 0. It counts in the width of a page, which is what vector code can do.
 fn zeros_in(page: &[u16; PLACES], frames: usize) -> usize
     requires { ⌜ (frames ≤ places) × (length (now page) ≡ places) ⌝ }
-    ensures { λ r. ⌜ r ≡ zerosIn (take frames (now (page .entry))) ⌝ }
+    ensures { λ r. ⌜ r ≡ count 0 (take frames (now (page .entry))) ⌝ }
 {
     let mut n = 0u16;
     let mut i = 0;

@@ -20,7 +20,7 @@ use Rattle.trace.specs.declared.Next.the-variants.{Record as Found}
 use Rattle.trace.specs.Format.{numberAt, trailerLength, trailerAt, pointsBack, judged, headerOf, recordOf, recordIn, recordAt, isEnd, checkedOf}
 use Rattle.trace.specs.Encode.{recordBytes, recordsBytes, trailerOf, trailerBytes, traceBytes, RecordIn, RecordsIn}
 use Rattle.trace.proofs.Bytes.{numberAt-drop}
-use Rattle.trace.proofs.Trailers.{meant-limits}
+use Rattle.model.proofs.Limits.{meant-limits}
 use Rattle.trace.proofs.Records.{firstBad-zero}
 
 -- ---- the parts of the file

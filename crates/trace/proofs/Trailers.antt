@@ -1,16 +1,15 @@
--- Laws of the trailer: which numbers it means, and what is known of one that is not refused. Assumes nothing.
+-- Laws of the trailer: what is known of one that is not refused. Assumes nothing.
 use mathlib.Core.Path.{_≡_, refl}
-use mathlib.Core.Bool.{Bool, true, false, _&&_}
+use mathlib.Core.Bool.{Bool, true, false}
 use mathlib.Core.List.{List}
 use Prim.Native.Nat.{ℕ, _+_, _*_, _≤_}
 use native.Mathlib.Omega.{arith}
 use lib.ListN.{length}
-use lib.Dec.{eqb, ltb}
-use borrow.Author.Tests.{eqb-true, leb-true, eq-eqb}
-use Rattle.model.specs.Numbers.{Numbers, if-else, inLimits, withUsualDrive, meant}
+use lib.Dec.{ltb}
+use borrow.Author.Tests.{eqb-true, leb-true}
+use Rattle.model.specs.Numbers.{if-else, inLimits, meant}
 use Rattle.model.specs.Refusals.{first}
 use Rattle.model.proofs.Refusals.{first-clear, not-false, and-both}
-use Rattle.model.proofs.Limits.{limits-hold}
 use Rattle.model.specs.declared.Refusal.the-variants.{NotATrace}
 use Rattle.model.specs.declared.Verdict.{Verdict}
 use Rattle.model.specs.declared.Verdict.the-variants as verdict
@@ -18,34 +17,6 @@ use Rattle.trace.specs.declared.Trailer.{Trailer}
 use Rattle.trace.specs.declared.Checked.{Checked}
 use Rattle.trace.specs.declared.Checked.the-variants.{Refused, Fine}
 use Rattle.trace.specs.Format.{trailerLength, numbersIn, pointsBack, trailerRows, checkedBy, judged, headerOf}
-
--- ---- the numbers that are meant
-
-pub meant-usual : (n : Numbers) → n .r ≡ 0 → n .w ≡ 0 → meant n ≡ withUsualDrive n
-unfolding meant
-meant-usual n e f = rw (eq-eqb _ _ e, eq-eqb _ _ f)
-
-pub meant-given : (n : Numbers) → (n .r ≡ 0 → n .w ≡ 0 → ⊥) → meant n ≡ n
-unfolding meant
-meant-given n h = go (eqb (n .r) 0 && eqb (n .w) 0) refl
-  where
-    go : (t : Bool) → (eqb (n .r) 0 && eqb (n .w) 0) ≡ t → if-else t (withUsualDrive n) n ≡ n
-    go true p = let z = and-both _ _ p in absurd (h (eqb-true (n .r) 0 (z .0)) (eqb-true (n .w) 0 (z .1)))
-    go false p = refl
-
--- where the numbers that are meant are in their limits, those that are given are not above them
-pub meant-limits : (n : Numbers) → inLimits (meant n) ≡ true
-    → (n .b ≤ 64) × (n .P ≤ 4096) × (n .N ≤ 65536) × (n .r ≤ 1000) × (n .w ≤ 1000)
-unfolding meant
-meant-limits n e = go (eqb (n .r) 0 && eqb (n .w) 0) refl e
-  where
-    go : (t : Bool) → (eqb (n .r) 0 && eqb (n .w) 0) ≡ t → inLimits (if-else t (withUsualDrive n) n) ≡ true
-        → (n .b ≤ 64) × (n .P ≤ 4096) × (n .N ≤ 65536) × (n .r ≤ 1000) × (n .w ≤ 1000)
-    go true p h =
-        let l = limits-hold (withUsualDrive n) h in
-        let z = and-both _ _ p in
-        (l .b-high, l .P-high, l .N-high, omega (arith, eqb-true (n .r) 0 (z .0)), omega (arith, eqb-true (n .w) 0 (z .1)))
-    go false p h = let l = limits-hold n h in (l .b-high, l .P-high, l .N-high, l .r-high, l .w-high)
 
 -- ---- a trailer that is not refused
 

@@ -5,7 +5,7 @@ use mathlib.Core.Logic.{⊎-elim}
 use borrow.Author.Needs.{needs}
 use Rattle.model.specs.Numbers.{meant}
 use Rattle.trace.specs.Format.{numbersIn}
-use Rattle.trace.proofs.Trailers.{meant-usual, meant-given}
+use Rattle.model.proofs.Limits.{meant-usual, meant-given}
 use Rattle.trace.proofs.numbers_allowed.Statement.{statement}
 use Rattle.trace.proofs.numbers_allowed.Tie as tie
 

@@ -6,13 +6,13 @@ use Prim.Native.Nat.{_+_, _-_, _≤_}
 use native.Mathlib.Omega.{arith}
 use borrow.Author.Needs.{needs}
 use lib.ListN.{take, drop}
-use Rattle.pool.specs.Parts.{zerosIn}
-use Rattle.pool.proofs.Every.{drop-take-next, drop-take-end, zerosIn-more, zerosIn-same}
+use Rattle.order.specs.Count.{count}
+use Rattle.pool.proofs.Every.{drop-take-next, drop-take-end, zeros-more, zeros-same}
 use Rattle.pool.proofs.page_test.zeros_in.Statement.{statement}
 use Rattle.pool.proofs.page_test.zeros_in.Tie as tie
 
 abbrev Inv-loop : tie.InvT-loop
-Inv-loop page frames n₀ i₀ n i = (i ≤ frames) × (n ≤ i) × (n + zerosIn (drop i (take frames page)) ≡ zerosIn (take frames page))
+Inv-loop page frames n₀ i₀ n i = (i ≤ frames) × (n ≤ i) × (n + count 0 (drop i (take frames page)) ≡ count 0 (take frames page))
 
 abbrev μ-loop : tie.MeasureT-loop
 μ-loop page frames n₀ i₀ n i = frames - i
@@ -43,8 +43,8 @@ loop-again c =
       search needs,
       ⊎-elim (λ w. omega arith) (λ w. omega arith) (c .if1 .came),
       ⊎-elim
-          (λ w. rw (w .1) (zerosIn-more (l .n) _ e (l .inv .2) (w .0 .taken)))
-          (λ w. rw (w .1) (zerosIn-same (l .n) _ e (l .inv .2) (w .0 .left)))
+          (λ w. rw (w .1) (zeros-more (l .n) _ e (l .inv .2) (w .0 .taken)))
+          (λ w. rw (w .1) (zeros-same (l .n) _ e (l .inv .2) (w .0 .left)))
           (c .if1 .came),
     )
 
