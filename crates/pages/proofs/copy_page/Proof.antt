@@ -1,47 +1,57 @@
--- `pages::copy_page` meets its contract. The loop's invariant: the first i bytes are alike, and `to` is as long as `from`; a turn's store
--- makes one more alike, and at the end all are. The measure is what is left of the length. Assumes nothing.
-use mathlib.Core.Path.{_≡_}
-use Prim.Native.Nat.{_≤_, _-_}
-use native.Mathlib.Omega.{arith}
-use lib.ListN.{length, take, length-set}
+-- `pages::copy_page` meets its contract: `held` comes back beginning with `from`, and what is copied out of it is that beginning. Assumes nothing.
+use mathlib.Core.Path.{_∙_}
 use borrow.Author.Needs.{needs}
-use Rattle.pages.proofs.Copy.{copy-more, copy-all}
+use Rattle.pages.proofs.Copy.{front-in, front-is}
 use Rattle.pages.proofs.copy_page.Statement.{statement}
 use Rattle.pages.proofs.copy_page.Tie as tie
 
-abbrev Inv-loop : tie.InvT-loop
-Inv-loop to₀ from i₀ to i = (i ≤ length from) × (length to ≡ length from) × (take i to ≡ take i from)
+sub-copy-bytes : tie.Need-sub-copy-bytes
+sub-copy-bytes c = search needs
 
-abbrev μ-loop : tie.MeasureT-loop
-μ-loop to₀ from i₀ to i = length from - i
+part-held-start : tie.Need-part-held-start
+part-held-start c = search needs
 
-loop-holds : tie.Need-loop-holds Inv-loop μ-loop
-loop-holds c = search needs
+part-held-end : tie.Need-part-held-end
+part-held-end c = search needs
 
-shared-slice-read-to : tie.Need-shared-slice-read-to Inv-loop μ-loop
-shared-slice-read-to c = search needs
+copy-bytes-requires : tie.Need-copy-bytes-requires
+copy-bytes-requires c κs = search needs
 
-slice-write-to : tie.Need-slice-write-to Inv-loop μ-loop
-slice-write-to c = search needs
+sub-copy-bytes-2 : tie.Need-sub-copy-bytes-2
+sub-copy-bytes-2 c = search needs
 
-add-i : tie.Need-add-i Inv-loop μ-loop
-add-i c = search needs
+part-copy-bytes-start : tie.Need-part-copy-bytes-start
+part-copy-bytes-start c = search needs
 
-loop-less : tie.Need-loop-less Inv-loop μ-loop
-loop-less c = search needs
+part-copy-bytes-end : tie.Need-part-copy-bytes-end
+part-copy-bytes-end c =
+    let copied = c .before .before .before .copy-bytes in
+    front-in (c .before .before .before .before .before .before .before .before .args .from .now) (copied .last .0) _ (copied .ensures)
 
-loop-again : tie.Need-loop-again Inv-loop μ-loop
-loop-again c =
-    let l = c .before .before .loop in
-    (omega arith, simp length-set (l .inv .1), copy-more (l .i) (l .to) _ (omega arith) (omega arith) (l .inv .2))
+copy-bytes-requires-2 : tie.Need-copy-bytes-requires-2
+copy-bytes-requires-2 c κs = search needs
 
-same-length : tie.Need-same-length Inv-loop μ-loop
+copy-bytes-requires-3 : tie.Need-copy-bytes-requires-3
+copy-bytes-requires-3 c κs = search needs
+
+same-length : tie.Need-same-length
 same-length c = search needs
 
-returns : tie.Need-returns Inv-loop μ-loop
+returns : tie.Need-returns
 returns c =
-    let l = c .before .loop in
-    copy-all (l .i) (l .to) _ (omega arith) (l .inv .1) (l .inv .2)
+    let copied = c .before .before .before .before .before .before .before .copy-bytes in
+    let from = c .before .before .before .before .before .before .before .before .before .before .before .before .args .from .now in
+    c .before .before .copy-bytes2 .ensures ∙ front-is from (copied .last .0) _ (copied .ensures)
+
+same-length-2 : tie.Need-same-length-2
+same-length-2 c = search needs
+
+returns-2 : tie.Need-returns-2
+returns-2 c = search needs
 
 pub copy-page-spec : {M : Type 1} → statement M
-copy-page-spec = tie.close (tie.spec Inv-loop μ-loop loop-holds shared-slice-read-to slice-write-to add-i loop-less loop-again same-length returns)
+copy-page-spec =
+    tie.close
+    (tie.spec
+    sub-copy-bytes part-held-start part-held-end copy-bytes-requires sub-copy-bytes-2 part-copy-bytes-start part-copy-bytes-end copy-bytes-requires-2
+    copy-bytes-requires-3 same-length returns same-length-2 returns-2)

@@ -1,0 +1,47 @@
+-- `pages::copy_bytes` meets its contract. The loop's invariant: the first i bytes are alike, and `to` is as long as `from`; a turn's store
+-- makes one more alike, and at the end all are. The measure is what is left of the length. Assumes nothing.
+use mathlib.Core.Path.{_≡_}
+use Prim.Native.Nat.{_≤_, _-_}
+use native.Mathlib.Omega.{arith}
+use lib.ListN.{length, take, length-set}
+use borrow.Author.Needs.{needs}
+use Rattle.pages.proofs.Copy.{copy-more, copy-all}
+use Rattle.pages.proofs.copy_bytes.Statement.{statement}
+use Rattle.pages.proofs.copy_bytes.Tie as tie
+
+abbrev Inv-loop : tie.InvT-loop
+Inv-loop to₀ from i₀ to i = (i ≤ length from) × (length to ≡ length from) × (take i to ≡ take i from)
+
+abbrev μ-loop : tie.MeasureT-loop
+μ-loop to₀ from i₀ to i = length from - i
+
+loop-holds : tie.Need-loop-holds Inv-loop μ-loop
+loop-holds c = search needs
+
+shared-slice-read-to : tie.Need-shared-slice-read-to Inv-loop μ-loop
+shared-slice-read-to c = search needs
+
+slice-write-to : tie.Need-slice-write-to Inv-loop μ-loop
+slice-write-to c = search needs
+
+add-i : tie.Need-add-i Inv-loop μ-loop
+add-i c = search needs
+
+loop-less : tie.Need-loop-less Inv-loop μ-loop
+loop-less c = search needs
+
+loop-again : tie.Need-loop-again Inv-loop μ-loop
+loop-again c =
+    let l = c .before .before .loop in
+    (omega arith, simp length-set (l .inv .1), copy-more (l .i) (l .to) _ (omega arith) (omega arith) (l .inv .2))
+
+same-length : tie.Need-same-length Inv-loop μ-loop
+same-length c = search needs
+
+returns : tie.Need-returns Inv-loop μ-loop
+returns c =
+    let l = c .before .loop in
+    copy-all (l .i) (l .to) _ (omega arith) (l .inv .1) (l .inv .2)
+
+pub copy-bytes-spec : {M : Type 1} → statement M
+copy-bytes-spec = tie.close (tie.spec Inv-loop μ-loop loop-holds shared-slice-read-to slice-write-to add-i loop-less loop-again same-length returns)
