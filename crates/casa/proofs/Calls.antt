@@ -47,11 +47,15 @@ module _ (p : Pool) (s : Sound p) (page m n : ℕ) (l : Lent p m n page) (op : O
       let h : x .frame < p .frames = rw (ap (λ (y : Step). y .frame) e) (kept .frame) in
       page-in (p .«page_bytes») (x .frame) (p .frames) m (l .frames) h
 
-  pub wanted-in : InPages (p .«page_bytes») page n
+  wanted-in : InPages (p .«page_bytes») page n
   wanted-in = page-in (p .«page_bytes») page (p .pages) n (l .store) (l .inside)
 
-  pub victim-in : AnswerIn (p .«page_bytes») (x .answer) n
+  victim-in : AnswerIn (p .«page_bytes») (x .answer) n
   victim-in = rw (ap (λ (y : Step). y .answer) e) (answer-in (p .«page_bytes») (p .pages) n (request op (costsIn p) (stateOf p) page .answer) (l .store) (kept .victim))
+
+  -- frame, page and victim lie within the lent bytes
+  pub bring-in : InPages (p .«page_bytes») (x .frame) m × (InPages (p .«page_bytes») page n × AnswerIn (p .«page_bytes») (x .answer) n)
+  bring-in = (frame-in, (wanted-in, victim-in))
 
 -- ---- the bytes after a step that the code made are those after the step of the definitions
 

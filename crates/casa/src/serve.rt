@@ -4,18 +4,14 @@ ghost use Prim.Native.Nat.{_+_, _≤_};
 ghost use lib.ListN.{length};
 ghost use Rattle.pages.specs.Pages.{InPages};
 ghost use Rattle.model.specs.Bytes.{brought};
-ghost use Rattle.model.specs.Request.{request};
-ghost use Rattle.pool.specs.Pool.{stateOf, Sound};
-ghost use Rattle.step.specs.Step.{stepOf};
-ghost use Rattle.casa.specs.Calls.{memory, costsIn, AnswerIn, Lent, readServed, readLeft, writeServed, writeLeft, flushServed, flushLeft};
+ghost use Rattle.pool.specs.Pool.{Sound};
+ghost use Rattle.casa.specs.Calls.{memory, AnswerIn, Lent, readServed, readLeft, writeServed, writeLeft, flushServed, flushLeft};
 use crate::Flushed;
 use crate::Served;
 use model::Answer;
 use model::Flushing;
-use model::Op;
 use model::Victim;
 use pool::Pool;
-use step::Step;
 
 // The bytes' part of a request: a fault fetches the page, after the write-back of a dirty victim.
 fn bring(
@@ -48,21 +44,6 @@ fn bring(
     }
 }
 
-// One request whole: the pool's part and the bytes' part.
-fn serve(pool: Pool, page: usize, frames: &mut [u8], store: &mut [u8], op: Op) -> Step
-    requires { ⌜ Sound pool ⌝ }
-    requires { ⌜ Lent pool (length (now frames)) (length (now store)) page ⌝ }
-    ensures { λ r. ⌜ r ≡ stepOf (request op (costsIn pool) (stateOf pool) page) ⌝ }
-    ensures { λ r. ⌜ memory (now (frames .exit)) (now (store .exit)) ≡ brought (pool .«page_bytes») (r .frame) page (r .answer) (memory (now (frames .entry)) (now (store .entry))) ⌝ }
-{
-    let size = pool.page_bytes;
-    let done = step::request(pool, pool.read_cost, pool.write_cost, page, op);
-    let frame = done.frame;
-    let answer = done.answer;
-    bring(frames, store, size, frame, page, answer);
-    done
-}
-
 pub fn serve_read(
     pool: Pool,
     page: usize,
@@ -76,10 +57,11 @@ pub fn serve_read(
     ensures { λ r. ⌜ readLeft r (now (frames .exit)) (now (store .exit)) (now (out .exit)) ≡ readServed pool page (now (frames .entry)) (now (store .entry)) ⌝ }
 {
     let size = pool.page_bytes;
-    let read = serve(pool, page, frames, store, Op::Read);
+    let read = step::read(pool, pool.read_cost, pool.write_cost, page);
     let next = read.pool;
     let frame = read.frame;
     let answer = read.answer;
+    bring(frames, store, size, frame, page, answer);
     pages::copy_out(out, frames, frame, size);
     Served { pool: next, answer }
 }
@@ -98,10 +80,11 @@ pub fn serve_write(
     ensures { λ r. ⌜ writeLeft r (now (frames .exit)) (now (store .exit)) ≡ writeServed pool page start (now (bytes .entry)) (now (frames .entry)) (now (store .entry)) ⌝ }
 {
     let size = pool.page_bytes;
-    let wrote = serve(pool, page, frames, store, Op::Write);
+    let wrote = step::write(pool, pool.read_cost, pool.write_cost, page);
     let next = wrote.pool;
     let frame = wrote.frame;
     let answer = wrote.answer;
+    bring(frames, store, size, frame, page, answer);
     pages::overlay(frames, frame, start, bytes, size);
     Served { pool: next, answer }
 }

@@ -4,7 +4,7 @@ ghost use Prim.Native.Nat.{ℕ, _≤_, _<_};
 ghost use lib.ListN.{getD, take};
 ghost use Rattle.order.specs.Places.{places};
 ghost use Rattle.order.specs.Find.{findFrom};
-ghost use Rattle.model.specs.Request.{placeBy, request, flushed};
+ghost use Rattle.model.specs.Request.{placeBy, locate, request, flushed};
 ghost use Rattle.pool.specs.Pool.{poolOf, stateOf, Sound};
 ghost use Rattle.step.specs.Step.{costs, mostCost, stepOf};
 
@@ -67,29 +67,47 @@ fn place_of(
     }
 }
 
-// ---- the whole
-
-// One request on a sound pool, with the costs in force.
-pub fn request(pool: Pool, read_cost: u64, write_cost: u64, page: usize, op: Op) -> Step
+// Where a sound pool has a page.
+fn locate(pool: Pool, wanted: u16) -> Place
     requires { ⌜ Sound pool ⌝ }
-    requires { ⌜ (page < pool .pages) × (1 ≤ «read_cost») × («read_cost» ≤ mostCost) × («write_cost» ≤ mostCost) ⌝ }
-    ensures { λ r. ⌜ r ≡ stepOf (request op (costs «read_cost» «write_cost») (stateOf pool) page) ⌝ }
+    ensures { λ r. ⌜ r ≡ locate (stateOf pool) wanted ⌝ }
 {
-    let wanted = page as u16;
     let clean = pool.clean;
     let dirty = pool.dirty;
-    let pages = pool.page;
-    let place = place_of(clean, pool.clean_len, dirty, pool.dirty_len, pages, wanted);
+    let page = pool.page;
+    place_of(clean, pool.clean_len, dirty, pool.dirty_len, page, wanted)
+}
+
+// ---- the whole
+
+// A read on a sound pool, with the costs in force. Reads and writes have a function each, with one caller: one for both would not be compiled into its two
+// callers, and at each call a pool would be copied to it and back.
+pub fn read(pool: Pool, read_cost: u64, write_cost: u64, page: usize) -> Step
+    requires { ⌜ Sound pool ⌝ }
+    requires { ⌜ (page < pool .pages) × (1 ≤ «read_cost») × («read_cost» ≤ mostCost) × («write_cost» ≤ mostCost) ⌝ }
+    ensures { λ r. ⌜ r ≡ stepOf (request Op.Read (costs «read_cost» «write_cost») (stateOf pool) page) ⌝ }
+{
+    let wanted = page as u16;
+    let place = locate(pool, wanted);
     match place {
-        Place::InClean(i) => match op {
-            Op::Read => hit::read_clean(pool, read_cost, write_cost, i),
-            Op::Write => hit::write_clean(pool, i),
-        },
-        Place::InDirty(i) => match op {
-            Op::Read => hit::read_dirty(pool, i),
-            Op::Write => hit::write_dirty(pool, read_cost, write_cost, i),
-        },
-        Place::Absent => fault::fault(pool, wanted, op),
+        Place::InClean(i) => hit::read_clean(pool, read_cost, write_cost, i),
+        Place::InDirty(i) => hit::read_dirty(pool, i),
+        Place::Absent => fault::fault(pool, wanted, Op::Read),
+    }
+}
+
+// A write on a sound pool, with the costs in force.
+pub fn write(pool: Pool, read_cost: u64, write_cost: u64, page: usize) -> Step
+    requires { ⌜ Sound pool ⌝ }
+    requires { ⌜ (page < pool .pages) × (1 ≤ «read_cost») × («read_cost» ≤ mostCost) × («write_cost» ≤ mostCost) ⌝ }
+    ensures { λ r. ⌜ r ≡ stepOf (request Op.Write (costs «read_cost» «write_cost») (stateOf pool) page) ⌝ }
+{
+    let wanted = page as u16;
+    let place = locate(pool, wanted);
+    match place {
+        Place::InClean(i) => hit::write_clean(pool, i),
+        Place::InDirty(i) => hit::write_dirty(pool, read_cost, write_cost, i),
+        Place::Absent => fault::fault(pool, wanted, Op::Write),
     }
 }
 
