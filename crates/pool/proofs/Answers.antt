@@ -1,19 +1,19 @@
 -- The answers of the functions of the test: a no where something is wrong, and behind the tests that have passed the answer of the last one.
 --     limits-refused, limits-last, counts-last, lengths-last, tails-last    numbers, counts, lengths, places without meaning
 --     frames-decides, pages-last    frames and pages
---     sound-refused, sound-last    the whole
+--     sound-refused, sound-last, sound-full    the whole
 -- Assumes nothing.
 use mathlib.Core.Path.{_≡_, refl, ap, _∙_}
 use mathlib.Core.Bool.{Bool, true, false}
 use Prim.Native.Nat.{ℕ, _+_, _*_, _-_, _≤_}
 use native.Mathlib.Omega.{arith}
-use mathlib.Core.List.{List, _++_}
+use mathlib.Core.List.{List, [], _++_}
 use lib.ListN.{length, take, drop, replicate}
 use lib.Dec.{eqb, leb}
 use Rattle.order.specs.Count.{count}
 use Rattle.order.specs.Places.{places}
 use Rattle.model.specs.Numbers.{Numbers, unit, mostServed, inLimits, Limits}
-use Rattle.pool.specs.Parts.{Decides, every, isZero, isSome, isAtMost, marked, blankAll, nonzeroApart, CountsRight, TailsRight, FramesRight, EmptyRight, PagesRight}
+use Rattle.pool.specs.Parts.{Decides, every, isZero, isSome, isAtMost, marked, blankAll, nonzeroApart, CountsRight, TailsRight, FramesRight, EmptyRight, PagesRight, FullRight}
 use Rattle.pool.specs.Pool.{Sound}
 use Rattle.pool.specs.Test.{soundB}
 use Rattle.pool.specs.declared.Pool.{Pool}
@@ -87,3 +87,12 @@ sound-last p le lc ld lp l c n o f t d =
     (λ s. sound-parts p s .pages)
     d)
     (soundB-decides p)
+
+-- no frame is empty
+pub sound-full : (p : Pool) → length (p .empty) ≡ places → length (p .clean) ≡ places → length (p .dirty) ≡ places → length (p .page) ≡ places
+    → LimitsIn p → CountsIn p → LengthsIn p → TailsIn p → p .«empty_len» ≡ 0
+    → FullRight (p .frames) (p .pages) (take (p .«clean_len») (p .clean)) (take (p .«dirty_len») (p .dirty)) (p .page)
+    → true ≡ soundB p
+sound-full p le lc ld lp l c n o z f =
+    let none : take (p .«empty_len») (p .empty) ≡ [] = ap (λ (k : ℕ). take k (p .empty)) z in
+    sound-last p le lc ld lp l c n o (rw none (f .frames)) true (rw none (f .pages))

@@ -4,7 +4,6 @@
 --     nonzeroApart-twice, nonzeroApart-zero, nonzeroApart-new    one page more is looked at
 --     nonzeroApart-means, nonzeroApart-of    pages that stand apart, place by place
 --     knows-more, knows-met, knows-new    marks that know every earlier page: one page more that leaves a mark or meets one, and a page that they do not know
---     allApart-more    one page more, where no page so far has met a mark
 -- Assumes nothing.
 use mathlib.Core.Path.{_≡_, refl, sym, _∙_}
 use mathlib.Core.Bool.{true, false, not, _||_, false≢true, or-true, or-false, and-true, and-false, and-eq-true-iff}
@@ -17,11 +16,10 @@ use native.Mathlib.Omega.{arith}
 use mathlib.Core.List.{List}
 use lib.ListN.{length, getD, set, length-set}
 use lib.Seq.{getD-set-same, getD-set-other}
-use lib.Bits.{bitOr, or-add-and, and-le-l, and-le-r}
 use lib.Dec.{eqb}
 use borrow.Author.Count.{below-more}
 use borrow.Author.Tests.{eq-eqb, ne-eqb, not-true}
-use Rattle.pool.specs.Parts.{hasBefore, nonzeroApart, AllApart}
+use Rattle.pool.specs.Parts.{hasBefore, nonzeroApart}
 
 -- a place before n where q stands
 pub record Before (page : List ℕ) (n q : ℕ) : Type 0 where
@@ -128,21 +126,3 @@ module _ (page : List ℕ) where
 
   pub knows-new : (marks : List ℕ) (i : ℕ) → Knows marks page i → getD marks (getD page i 0 % 2048) 0 ≡ 0 → hasBefore page i (getD page i 0) ≡ false
   knows-new marks i (l, k) z = hasBefore-nowhere i (getD page i 0) (λ j h e. k j h (rw e z))
-
-  pub allApart-more : (marks : List ℕ) (met i : ℕ) → Knows marks page i → (met ≡ 0 → AllApart page i)
-      → bitOr met (getD marks (getD page i 0 % 2048) 0) ≡ 0 → AllApart page (i + 1)
-  allApart-more marks met i (_, k) apart none f g h j e =
-      dite (decLt f i)
-      (λ l. dite (decLt g i) (λ m. apart old f g l m e) (λ n. let s : g ≡ i = omega arith in absurd (k f l (rw (e, s) new))))
-      (λ n.
-      let s : f ≡ i = omega arith in
-      dite (decLt g i) (λ m. absurd (k g m (rw (← e, s) new))) (λ o. omega arith))
-    where
-      m : ℕ
-      m = getD marks (getD page i 0 % 2048) 0
-
-      old : met ≡ 0
-      old = omega (arith, or-add-and met m, and-le-r met m)
-
-      new : m ≡ 0
-      new = omega (arith, or-add-and met m, and-le-l met m)

@@ -2,7 +2,8 @@
 --     drop-next, drop-take-next, drop-take-end    what a loop at place i has still to read: the element there and what is behind it, or nothing
 --     every-spoilt, every-kept, every-end    one turn of a loop that keeps in a flag whether all elements so far have passed
 --     every-means, every-of    every element passes: place by place
---     zeros-more, zeros-same    one turn of a loop that counts zeros
+--     every-front, every-both    the first elements, and the others too
+--     tally-more, tally-same    one turn of a loop that counts how often q stands
 -- Assumes nothing.
 use mathlib.Core.Path.{_≡_, refl, sym, _∙_}
 use mathlib.Core.Bool.{Bool, true, false, _&&_, and-true, and-false, and-eq-true-iff}
@@ -54,11 +55,23 @@ module _ (t : ℕ → Bool) where
   every-of [] p = refl
   every-of (x ∷ xs) p = and-eq-true-iff (t x) (every t xs) .1 (p 0 (omega arith), every-of xs (λ i h. p (suc i) (omega arith)))
 
--- ---- a count of zeros
+  pub every-front : (n : ℕ) (xs : List ℕ) → every t xs ≡ true → every t (take n xs) ≡ true
+  every-front zero xs e = refl
+  every-front (suc n) [] e = refl
+  every-front (suc n) (x ∷ xs) e =
+      let a = and-eq-true-iff (t x) (every t xs) .0 e in and-eq-true-iff (t x) (every t (take n xs)) .1 (a .0, every-front n xs (a .1))
 
-module _ {xs : List ℕ} {x : ℕ} {rest : List ℕ} (n all : ℕ) (e : xs ≡ x ∷ rest) (k : n + count 0 xs ≡ all) where
-  pub zeros-more : x ≡ 0 → n + 1 + count 0 rest ≡ all
-  zeros-more z = omega (arith, rw (e, eq-eqb x 0 z) at k)
+  pub every-both : (n : ℕ) (xs : List ℕ) → every t (take n xs) ≡ true → every t (drop n xs) ≡ true → every t xs ≡ true
+  every-both zero xs e k = k
+  every-both (suc n) [] e k = refl
+  every-both (suc n) (x ∷ xs) e k =
+      let a = and-eq-true-iff (t x) (every t (take n xs)) .0 e in and-eq-true-iff (t x) (every t xs) .1 (a .0, every-both n xs (a .1) k)
 
-  pub zeros-same : x ≢ 0 → n + count 0 rest ≡ all
-  zeros-same z = omega (arith, rw (e, ne-eqb x 0 z) at k)
+-- ---- a count of q
+
+module _ {xs : List ℕ} {x : ℕ} {rest : List ℕ} (q n all : ℕ) (e : xs ≡ x ∷ rest) (k : n + count q xs ≡ all) where
+  pub tally-more : x ≡ q → n + 1 + count q rest ≡ all
+  tally-more z = omega (arith, rw (e, eq-eqb x q z) at k)
+
+  pub tally-same : x ≢ q → n + count q rest ≡ all
+  tally-same z = omega (arith, rw (e, ne-eqb x q z) at k)

@@ -8,5 +8,7 @@ pub mod Parts
 pub mod Decides
 pub mod Frames
 pub mod Pages
+pub mod Full
+pub mod Far
 pub mod Answers
 pub mod Form

@@ -1,25 +1,27 @@
 -- The test of the pages is exact. Where every empty frame has page 0, one more frame may have it, so the frames with page 0 are counted against the
 -- empty ones; no other page stands twice.
 --     PagesTest, pages-test, test-pages    what the test finds out, and that right pages are those that pass it
---     apart-pages    pages that are all different need no count of zeros
+--     low-front, low-all    pages that are low, among the first b or among all, where the others are 0
 --     empty-below    the numbers of the list of empty frames are frames
 -- Assumes nothing.
 use mathlib.Core.Path.{_≡_, refl, sym, ap, _∙_}
 use mathlib.Core.Logic.{_≢_, dite}
-use mathlib.Core.Bool.{Bool, true, false}
+use mathlib.Core.Bool.{Bool, true, false, and-eq-true-iff}
 use Prim.Native.Nat.{ℕ, zero, suc, _+_, _-_, _≤_, _<_}
 use native.Mathlib.Decide.{decLt, ℕ-discrete}
 use native.Mathlib.Omega.{arith}
-use mathlib.Core.List.{List, _∷_}
-use lib.ListN.{length, getD, take}
-use lib.Seq.{take-suc, getD-take, length-take-le}
+use mathlib.Core.List.{List, [], _∷_}
+use lib.ListN.{length, getD, take, drop}
+use lib.Seq.{take-suc, take-all, getD-take, length-take-le}
 use lib.Dec.{eqb}
-use borrow.Author.Tests.{eq-eqb, ne-eqb}
+use borrow.Author.Tests.{eqb-true, eq-eqb, ne-eqb, le-leb}
 use Rattle.order.specs.Count.{bit, count}
 use Rattle.order.specs.Lists.{downFrom}
+use Rattle.order.specs.Places.{places}
 use Rattle.order.proofs.Count.{bit-other, count-append, count-downFrom-below, count-downFrom-above, count-below, count-length-le}
 use Rattle.model.specs.Numbers.{if-else}
-use Rattle.pool.specs.Parts.{every, isAtMost, blankAll, nonzeroApart, AllApart, EmptyRight, PagesRight}
+use Rattle.pool.specs.Parts.{every, isZero, isAtMost, blankAll, nonzeroApart, EmptyRight, PagesRight}
+use Rattle.pool.proofs.Every.{every-front, every-both}
 use Rattle.pool.proofs.Apart.{nonzeroApart-means, nonzeroApart-of}
 use Rattle.pool.proofs.Counting.{count-cons-le, count-more, keep, keep-in, keep-out}
 use Rattle.pool.proofs.Exact.{Exact, exact-eqb, exact-leb, exact-every, exact-places}
@@ -124,14 +126,22 @@ module _ (b N : ℕ) (E page : List ℕ) (some : 1 ≤ N) (long : b ≤ length p
                 (omega (arith, bit-other g f (λ e. n (sym e))))),
           )
 
-  pub apart-pages : every (isAtMost (N - 1)) (take b page) ≡ true → blankAll page E ≡ true → AllApart page b → PagesRight b N E page
-  apart-pages low blank apart =
-      record {
-        blank = blank-exact .holds blank;
-        inside = λ f h c. omega (arith, low-exact .holds low f h);
-        apart = λ f g h k c d e. apart f g h k e;
-      }
-
 pub empty-below : (b : ℕ) (e : List ℕ) (en : ℕ) → en ≤ length e → EmptyRight b (take en e) → (k : ℕ) → k < en → getD e k 0 < b
 empty-below b e en l right k h =
     rw (getD-take en e k 0 h) at (count-below b (take en e) (right .others) k (omega (arith, length-take-le en e l)))
+
+-- ---- low pages
+
+module _ (b top : ℕ) (page : List ℕ) (l : length page ≡ places) where
+  pub low-front : every (isAtMost top) (take places page) ≡ true → every (isAtMost top) (take b page) ≡ true
+  low-front e = every-front (isAtMost top) b page (rw (take-all places page (omega arith)) at e)
+
+  pub low-all : every isZero (drop b page) ≡ true → every (isAtMost top) (take b page) ≡ true → every (isAtMost top) (take places page) ≡ true
+  low-all z e = rw (take-all places page (omega arith)) (every-both (isAtMost top) b page e (zeros-low (drop b page) z))
+    where
+      zeros-low : (xs : List ℕ) → every isZero xs ≡ true → every (isAtMost top) xs ≡ true
+      zeros-low [] h = refl
+      zeros-low (x ∷ xs) h =
+          let a = and-eq-true-iff (isZero x) (every isZero xs) .0 h in
+          let zero-is : x ≡ 0 = eqb-true x 0 (a .0) in
+          and-eq-true-iff (isAtMost top x) (every (isAtMost top) xs) .1 (le-leb x top (omega arith), zeros-low xs (a .1))

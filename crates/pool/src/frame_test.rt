@@ -6,7 +6,7 @@ ghost use Rattle.order.specs.Places.{places};
 ghost use Rattle.pool.specs.Parts.{Decides, every, isSome, marked, FramesRight};
 use order::PLACES;
 
-fn wide(x: u8) -> usize
+pub fn wide(x: u8) -> usize
     ensures { λ r. ⌜ (r ≡ x) × (r < 256) ⌝ }
 {
     x as usize

@@ -6,6 +6,7 @@ ghost use Rattle.pool.specs.Test.{soundB};
 ghost use Rattle.pool.specs.Parts.{Decides, CountsRight};
 
 mod frame_test;
+mod full_test;
 pub mod page_test;
 mod tails;
 
@@ -144,6 +145,11 @@ pub fn sound(pool: Pool) -> bool
     let page = pool.page;
     if !tails::tails_right(&e, en, &c, cn, &d, dn, &page, frames) {
         return false;
+    }
+    if en == 0 {
+        if full_test::full_right(&c, cn, &d, dn, &page, frames, pages) {
+            return true;
+        }
     }
     if !frame_test::frames_right(&e, en, &c, cn, &d, dn, frames) {
         return false;

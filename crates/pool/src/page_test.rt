@@ -2,14 +2,14 @@
 ghost use mathlib.Core.Path.{_≡_};
 ghost use mathlib.Core.Bool.{true};
 ghost use Prim.Native.Nat.{ℕ, _≤_, _<_};
-ghost use lib.ListN.{length, getD, take};
+ghost use lib.ListN.{length, getD, take, drop};
 ghost use Rattle.order.specs.Places.{places};
 ghost use Rattle.order.specs.Count.{count};
-ghost use Rattle.pool.specs.Parts.{Decides, every, isAtMost, hasBefore, nonzeroApart, blankAll, AllApart, EmptyRight, PagesRight};
+ghost use Rattle.pool.specs.Parts.{Decides, every, isZero, isAtMost, hasBefore, nonzeroApart, blankAll, EmptyRight, PagesRight};
 use order::PLACES;
 
 // Whether the first `frames` pages are at most `top`.
-fn all_at_most(page: &[u16; PLACES], frames: usize, top: u16) -> bool
+pub fn all_at_most(page: &[u16; PLACES], frames: usize, top: u16) -> bool
     requires { ⌜ (frames ≤ places) × (length (now page) ≡ places) ⌝ }
     ensures { λ r. ⌜ r ≡ every (isAtMost top) (take frames (now (page .entry))) ⌝ }
 {
@@ -24,15 +24,15 @@ fn all_at_most(page: &[u16; PLACES], frames: usize, top: u16) -> bool
     ok
 }
 
-// How many of the first `frames` pages are 0. It counts in the width of a page, which is what vector code can do.
-fn zeros_in(page: &[u16; PLACES], frames: usize) -> usize
+// How many of the first `frames` pages are q. It counts in the width of a page, which is what vector code can do.
+pub fn count_in(page: &[u16; PLACES], frames: usize, q: u16) -> usize
     requires { ⌜ (frames ≤ places) × (length (now page) ≡ places) ⌝ }
-    ensures { λ r. ⌜ r ≡ count 0 (take frames (now (page .entry))) ⌝ }
+    ensures { λ r. ⌜ r ≡ count q (take frames (now (page .entry))) ⌝ }
 {
     let mut n = 0u16;
     let mut i = 0;
     while i < frames {
-        if page[i] == 0 {
+        if page[i] == q {
             n += 1;
         }
         i += 1;
@@ -72,24 +72,6 @@ pub fn stands_before(page: &[u16; PLACES], end: usize, q: u16) -> bool
     found
 }
 
-// Whether a glance shows that the first `frames` pages are all different: no two have the same remainder by 2,048. The loop has no branch, so a page
-// costs less than in the walk below. A no says nothing.
-fn glance_apart(page: &[u16; PLACES], frames: usize) -> bool
-    requires { ⌜ frames ≤ places ⌝ }
-    ensures { λ r. ⌜ (r ≡ true → AllApart (now (page .entry)) frames) ⌝ }
-{
-    let mut marks = [0u8; 2048];
-    let mut met = 0u8;
-    let mut i = 0;
-    while i < frames {
-        let m = (page[i] % 2048) as usize;
-        met = met | marks[m];
-        marks[m] = 1;
-        i += 1;
-    }
-    met == 0
-}
-
 // Whether no page but 0 stands twice among the first `frames`. A mark at a page's remainder by 2,048 says that an earlier page may be the same,
 // and only then the earlier ones are looked through.
 fn nonzero_apart(page: &[u16; PLACES], frames: usize) -> bool
@@ -116,9 +98,9 @@ fn nonzero_apart(page: &[u16; PLACES], frames: usize) -> bool
     ok
 }
 
-// Whether the pages are right: 0 in an empty frame; in any other below `pages`, and in no other such frame. Pages that are all different are right. The
-// glance is for where it does not fail by chance: two empty frames share page 0, and of more than 2,048 pages two may share a remainder. Else, where
-// every empty frame has page 0, one more frame may have it, so it is enough to count the zeros and to look for other pages that stand twice.
+// Whether the pages are right: 0 in an empty frame; in any other below `pages`, and in no other such frame. Where every empty frame has page 0, one more frame
+// may have it, so it is enough to count the zeros and to look for other pages that stand twice. Behind the frames the pages are 0, so the first test may look
+// at all places: a loop of fixed length is compiled without a rest.
 pub fn pages_right(
     e: &[u8; PLACES],
     en: usize,
@@ -128,23 +110,17 @@ pub fn pages_right(
 ) -> bool
     requires { ⌜ (frames ≤ places) × (1 ≤ pages) × (pages ≤ 65536) × (en ≤ frames) × (length (now e) ≡ places) × (length (now page) ≡ places) ⌝ }
     requires { ⌜ EmptyRight frames (take en (now e)) ⌝ }
+    requires { ⌜ every isZero (drop frames (now page)) ≡ true ⌝ }
     ensures { λ r. ⌜ Decides r (PagesRight frames pages (take en (now (e .entry))) (now (page .entry))) ⌝ }
 {
     let top = (pages - 1) as u16;
-    if !all_at_most(page, frames, top) {
+    if !all_at_most(page, PLACES, top) {
         return false;
     }
     if !all_blank(e, en, page) {
         return false;
     }
-    if en < 2 {
-        if pages <= 2048 {
-            if glance_apart(page, frames) {
-                return true;
-            }
-        }
-    }
-    if en + 1 < zeros_in(page, frames) {
+    if en + 1 < count_in(page, frames, 0) {
         return false;
     }
     nonzero_apart(page, frames)

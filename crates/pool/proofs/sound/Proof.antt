@@ -1,5 +1,5 @@
 -- `pool::sound` meets its contract. A sound pool has every part right, so a part that is not right says no; where all are right, the pool is sound,
--- and `soundB` says the same. Assumes nothing.
+-- and `soundB` says the same. Where no frame is empty, the walk may show the last two at once. Assumes nothing.
 use mathlib.Core.Path.{_≡_}
 use native.Mathlib.Omega.{arith}
 use borrow.Author.Needs.{needs}
@@ -7,7 +7,7 @@ use lib.ListN.{length}
 use Rattle.order.specs.Places.{places}
 use Rattle.pool.proofs.Parts.{frames-empty, LimitsIn, CountsIn, LengthsIn, TailsIn, FramesIn}
 use Rattle.pool.proofs.Decides.{decides-passed, decides-refuted, limits-decides}
-use Rattle.pool.proofs.Answers.{sound-refused, sound-last}
+use Rattle.pool.proofs.Answers.{sound-refused, sound-last, sound-full}
 use Rattle.pool.proofs.sound.Statement.{statement}
 use Rattle.pool.proofs.sound.Tie as tie
 
@@ -19,8 +19,8 @@ start c = c .before .before .before .before .before .before
 abbrev behind-lengths : tie.Else4 → tie.Else3
 behind-lengths c = c .before .before .before .before .before .before .before .before .before .before
 
-abbrev behind-tails : tie.Else5 → tie.Else4
-behind-tails c = c .before .before .before .before .before
+abbrev behind-tails : tie.Else7 → tie.Else4
+behind-tails c = c .before .before .before .before .before .before
 
 -- ---- what is known from the start, and behind each test
 
@@ -45,8 +45,8 @@ lengths c = let r = c .before .lengths-right in decides-passed (r .result) (r .e
 tails : (c : tie.Else4) → TailsIn (start (behind-lengths c) .args .pool)
 tails c = let r = c .before .tails-right in decides-passed (r .result) (r .ensures) (c .if4 .left)
 
-frames : (c : tie.Else5) → FramesIn (start (behind-lengths (behind-tails c)) .args .pool)
-frames c = let r = c .before .frames-right in decides-passed (r .result) (r .ensures) (c .if5 .left)
+frames : (c : tie.Else7) → FramesIn (start (behind-lengths (behind-tails c)) .args .pool)
+frames c = let r = c .before .frames-right in decides-passed (r .result) (r .ensures) (c .if7 .left)
 
 -- ---- the needs
 
@@ -83,16 +83,34 @@ returns-4 c =
     let r = c .before .tails-right in
     sound-refused _ (λ p. decides-refuted (r .result) (r .ensures) (c .if4 .taken) (p .tails))
 
-frames-right-requires : tie.Need-frames-right-requires
-frames-right-requires c κs =
-    let at = behind-lengths (c .before .before .before) in
+full-right-requires : tie.Need-full-right-requires
+full-right-requires c κs =
+    let behind-none = c .before .before .before in
+    let at = behind-lengths (behind-none .before) in
+    let l = limits (at .before .before .before .before) in
     let n = lengths-start (start at) in
-    ((limits (at .before .before .before .before) .b-high, lengths at), (n .0, n .1, n .2))
+    ((l .b-low, l .b-high, omega (arith, lengths at, behind-none .if5 .taken), l .N-low, l .N-high), (n .1, n .2, n .3))
 
 returns-5 : tie.Need-returns-5
 returns-5 c =
+    let behind-none = c .before .before .before .before .before in
+    let at = behind-lengths (behind-none .before) in
+    let n = lengths-start (start at) in
+    sound-full _ (n .0) (n .1) (n .2) (n .3)
+    (limits (at .before .before .before .before)) (counts (at .before .before)) (lengths at) (tails (behind-none .before))
+    (behind-none .if5 .taken)
+    (c .before .full-right .ensures (c .if6 .taken))
+
+frames-right-requires : tie.Need-frames-right-requires
+frames-right-requires c κs =
+    let at = behind-lengths (c .before .before .before .before) in
+    let n = lengths-start (start at) in
+    ((limits (at .before .before .before .before) .b-high, lengths at), (n .0, n .1, n .2))
+
+returns-6 : tie.Need-returns-6
+returns-6 c =
     let r = c .before .frames-right in
-    sound-refused _ (λ p. decides-refuted (r .result) (r .ensures) (c .if5 .taken) (p .frames))
+    sound-refused _ (λ p. decides-refuted (r .result) (r .ensures) (c .if7 .taken) (p .frames))
 
 pages-right-requires : tie.Need-pages-right-requires
 pages-right-requires c κs =
@@ -100,10 +118,10 @@ pages-right-requires c κs =
     let at = behind-lengths (behind-tails behind-frames) in
     let l = limits (at .before .before .before .before) in
     let n = lengths-start (start at) in
-    ((l .b-high, l .N-low, l .N-high, omega (arith, lengths at), n .0, n .3), frames-empty (frames behind-frames))
+    ((l .b-high, l .N-low, l .N-high, omega (arith, lengths at), n .0, n .3), (frames-empty (frames behind-frames), tails (behind-tails behind-frames) .pages))
 
-returns-6 : tie.Need-returns-6
-returns-6 c =
+returns-7 : tie.Need-returns-7
+returns-7 c =
     let behind-frames = c .before .before .before in
     let at = behind-lengths (behind-tails behind-frames) in
     let n = lengths-start (start at) in
@@ -124,7 +142,9 @@ sound-spec =
     returns-3
     tails-right-requires
     returns-4
-    frames-right-requires
+    full-right-requires
     returns-5
+    frames-right-requires
+    returns-6
     pages-right-requires
-    returns-6)
+    returns-7)

@@ -1,5 +1,5 @@
--- `pool::page_test::pages_right` meets its contract. Behind the first two tests, pages that are all different are right. Else right pages pass each of the four
--- tests; where they pass, the zeros are too few for two frames that are not empty to share page 0, and no other page stands twice. Assumes nothing.
+-- `pool::page_test::pages_right` meets its contract. Right pages pass each of the four tests; where they pass, the zeros are too few for two frames that are not empty
+-- to share page 0, and no other page stands twice. Assumes nothing.
 use mathlib.Core.Path.{_≡_}
 use mathlib.Core.Bool.{true}
 use Prim.Native.Nat.{_-_}
@@ -9,7 +9,7 @@ use lib.ListN.{take}
 use lib.Seq.{length-take-le}
 use Rattle.pool.specs.Parts.{every, isAtMost, blankAll, PagesRight}
 use Rattle.pool.proofs.Decides.{test-passed, test-refuted}
-use Rattle.pool.proofs.Pages.{PagesTest, pages-test, apart-pages, empty-below}
+use Rattle.pool.proofs.Pages.{PagesTest, pages-test, low-front, low-all, empty-below}
 use Rattle.pool.proofs.Answers.{pages-last}
 use Rattle.pool.proofs.page_test.pages_right.Statement.{statement}
 use Rattle.pool.proofs.page_test.pages_right.Tie as tie
@@ -23,7 +23,9 @@ tested c = pages-test (c .args .frames) (c .args .pages) (take (c .args .en) (c 
 
 low : (c : tie.Else1)
     → every (isAtMost (c .before .before .args .pages - 1)) (take (c .before .before .args .frames) (c .before .before .args .page .now)) ≡ true
-low c = test-passed (c .before .all-at-most .ensures) (c .if1 .left)
+low c =
+    let s = c .before .before in
+    low-front (s .args .frames) _ (s .args .page .now) (search needs) (test-passed (c .before .all-at-most .ensures) (c .if1 .left))
 
 blank : (c : tie.Else2)
     → blankAll (c .before .before .before .before .args .page .now)
@@ -42,47 +44,38 @@ all-at-most-requires : tie.Need-all-at-most-requires
 all-at-most-requires c κs = search needs
 
 returns : tie.Need-returns
-returns c r = test-refuted (c .before .all-at-most .ensures) (c .if1 .taken) (tested (c .before .before) r .low)
+returns c r =
+    let s = c .before .before in
+    test-refuted (c .before .all-at-most .ensures) (c .if1 .taken) (low-all (s .args .frames) _ (s .args .page .now) (search needs) (s .pre .1 .1) (tested s r .low))
 
 all-blank-requires : tie.Need-all-blank-requires
 all-blank-requires c κs =
     let a = c .before .before .args in
-    (search needs, search needs, λ k h. omega (arith, empty-below (a .frames) (a .e .now) (a .en) (search needs) (c .before .before .pre .1) k h))
+    (search needs, search needs, λ k h. omega (arith, empty-below (a .frames) (a .e .now) (a .en) (search needs) (c .before .before .pre .1 .0) k h))
 
 returns-2 : tie.Need-returns-2
 returns-2 c r = test-refuted (c .before .all-blank .ensures) (c .if2 .taken) (tested (c .before .before .before .before) r .blank)
 
-glance-apart-requires : tie.Need-glance-apart-requires
-glance-apart-requires c κs = search needs
+add-if3 : tie.Need-add-if3
+add-if3 c = search needs
+
+count-in-requires : tie.Need-count-in-requires
+count-in-requires c κs = search needs
 
 returns-3 : tie.Need-returns-3
-returns-3 c =
-    let behind-blank = c .before .before .before .before in
-    let a = behind-blank .before .before .before .before .args in
-    apart-pages (a .frames) (a .pages) (take (a .en) (a .e .now)) (a .page .now) (search needs) (search needs)
-    (low (behind-blank .before .before)) (blank behind-blank)
-    (c .before .glance-apart .ensures (c .if5 .taken))
-
-add-if6 : tie.Need-add-if6
-add-if6 c = search needs
-
-zeros-in-requires : tie.Need-zeros-in-requires
-zeros-in-requires c κs = search needs
-
-returns-4 : tie.Need-returns-4
-returns-4 c r =
-    let s = c .before .before .before .before .before .before .before in
+returns-3 c r =
+    let s = c .before .before .before .before .before .before in
     omega (arith, tested s r .few, length-take-le (s .args .en) (s .args .e .now) (search needs))
 
 nonzero-apart-requires : tie.Need-nonzero-apart-requires
 nonzero-apart-requires c κs = search needs
 
-returns-5 : tie.Need-returns-5
-returns-5 c =
-    let behind-blank = c .before .before .before .before in
+returns-4 : tie.Need-returns-4
+returns-4 c =
+    let behind-blank = c .before .before .before in
     let s = behind-blank .before .before .before .before in
     let a = s .args in
-    pages-last (a .frames) (a .pages) (take (a .en) (a .e .now)) (a .page .now) (search needs) (search needs) (s .pre .1)
+    pages-last (a .frames) (a .pages) (take (a .en) (a .e .now)) (a .page .now) (search needs) (search needs) (s .pre .1 .0)
     (low (behind-blank .before .before)) (blank behind-blank)
     (omega (arith, length-take-le (a .en) (a .e .now) (search needs)))
     _
@@ -98,10 +91,8 @@ pages-right-spec =
     returns
     all-blank-requires
     returns-2
-    glance-apart-requires
+    add-if3
+    count-in-requires
     returns-3
-    add-if6
-    zeros-in-requires
-    returns-4
     nonzero-apart-requires
-    returns-5)
+    returns-4)

@@ -1,4 +1,4 @@
--- `pool::page_test::zeros_in` meets its contract. The loop's invariant: the zeros counted so far and those from place `i` on are all the zeros, and at most `i`
+-- `pool::page_test::count_in` meets its contract. The loop's invariant: what is counted so far and what stands from place `i` on is all, and at most `i`
 -- are counted, so that the count does not wrap. The measure is how many pages are left. Assumes nothing.
 use mathlib.Core.Path.{_≡_}
 use mathlib.Core.Logic.{⊎-elim}
@@ -7,15 +7,15 @@ use native.Mathlib.Omega.{arith}
 use borrow.Author.Needs.{needs}
 use lib.ListN.{take, drop}
 use Rattle.order.specs.Count.{count}
-use Rattle.pool.proofs.Every.{drop-take-next, drop-take-end, zeros-more, zeros-same}
-use Rattle.pool.proofs.page_test.zeros_in.Statement.{statement}
-use Rattle.pool.proofs.page_test.zeros_in.Tie as tie
+use Rattle.pool.proofs.Every.{drop-take-next, drop-take-end, tally-more, tally-same}
+use Rattle.pool.proofs.page_test.count_in.Statement.{statement}
+use Rattle.pool.proofs.page_test.count_in.Tie as tie
 
 abbrev Inv-loop : tie.InvT-loop
-Inv-loop page frames n₀ i₀ n i = (i ≤ frames) × (n ≤ i) × (n + count 0 (drop i (take frames page)) ≡ count 0 (take frames page))
+Inv-loop page frames q n₀ i₀ n i = (i ≤ frames) × (n ≤ i) × (n + count q (drop i (take frames page)) ≡ count q (take frames page))
 
 abbrev μ-loop : tie.MeasureT-loop
-μ-loop page frames n₀ i₀ n i = frames - i
+μ-loop page frames q n₀ i₀ n i = frames - i
 
 loop-holds : tie.Need-loop-holds Inv-loop μ-loop
 loop-holds c = (search needs, search needs, omega arith)
@@ -43,8 +43,8 @@ loop-again c =
       search needs,
       ⊎-elim (λ w. omega arith) (λ w. omega arith) (c .if1 .came),
       ⊎-elim
-          (λ w. rw (w .1) (zeros-more (l .n) _ e (l .inv .2) (w .0 .taken)))
-          (λ w. rw (w .1) (zeros-same (l .n) _ e (l .inv .2) (w .0 .left)))
+          (λ w. rw (w .1) (tally-more (a .q) (l .n) _ e (l .inv .2) (w .0 .taken)))
+          (λ w. rw (w .1) (tally-same (a .q) (l .n) _ e (l .inv .2) (w .0 .left)))
           (c .if1 .came),
     )
 
@@ -57,5 +57,5 @@ returns c =
     let l = c .before .loop in
     omega (arith, rw (drop-take-end (a .page .now) (a .frames) (l .i) (search needs)) at (l .inv .2))
 
-pub zeros-in-spec : {M : Type 1} → statement M
-zeros-in-spec = tie.close (tie.spec Inv-loop μ-loop loop-holds mul-if1 element-copy-out-if1 add-n add-i loop-less loop-again cast-result returns)
+pub count-in-spec : {M : Type 1} → statement M
+count-in-spec = tie.close (tie.spec Inv-loop μ-loop loop-holds mul-if1 element-copy-out-if1 add-n add-i loop-less loop-again cast-result returns)
