@@ -13,8 +13,7 @@ use Rattle.order.proofs.Places.{pad-set, holds-getD, holds-remove, holds-cons}
 use Rattle.model.specs.Numbers.{mostServed}
 use Rattle.model.specs.State.{State, Counts, withLists, withPageIn, counted}
 use Rattle.model.specs.Good.{Good}
-use Rattle.model.specs.Request.{chosenBy, chosen, ChoiceIn, Taken, taken, writesOf, loaded, faultInto, faulted}
-use Rattle.model.specs.declared.Op.{Op}
+use Rattle.model.specs.Request.{chosenBy, chosen, ChoiceIn, Taken, taken, writesOf, faulted}
 use Rattle.model.specs.declared.Op.the-variants.{Read, Write}
 use Rattle.model.specs.declared.Choice.{Choice}
 use Rattle.model.specs.declared.Choice.the-variants.{OfEmpty, OfClean, OfDirty}
@@ -25,7 +24,7 @@ use Rattle.model.proofs.Good.{E-below, C-below, D-below, lengths-sum}
 use Rattle.pool.specs.Pool.{poolOf, stateOf, Sound}
 use Rattle.pool.specs.declared.Pool.{Pool}
 use Rattle.pool.proofs.Form.{pool-clean, pool-dirty, refilled, made, empty-holds, clean-holds, dirty-holds, writes-fit, clean-frame, dirty-frame, page-pad, held-page}
-use Rattle.step.specs.Step.{stepOf, freedOf}
+use Rattle.step.specs.Step.{stepOf, freedOf, filled}
 use Rattle.step.specs.declared.Step.{Step}
 use Rattle.step.specs.declared.Freed.{Freed}
 
@@ -131,15 +130,6 @@ writes-one None = omega arith
 writes-one (Clean q) = omega arith
 writes-one (Dirty q) = omega arith
 
--- frame f goes to the front of C for a read, of D for a write; after it was filled, that is the loaded state
-abbrev fronted : Op → ℕ → State → State
-fronted Read f s = withLists (s .lists .E) (f ∷ s .lists .C) (s .lists .D) s
-fronted Write f s = withLists (s .lists .E) (s .lists .C) (f ∷ s .lists .D) s
-
-fronted-loaded : (op : Op) (f q n : ℕ) (s : State) → fronted op f (counted 1 n (withPageIn f q s)) ≡ counted 1 n (loaded op f q s)
-fronted-loaded Read f q n s = refl
-fronted-loaded Write f q n s = refl
-
 -- what is freed, with so many writes, can be filled
 pub record Fillable (x : Freed) (n : ℕ) : Type 0 where
   pub frame : x .frame < places
@@ -173,7 +163,7 @@ module _ (p : Pool) (s : Sound p) (k : Choice) (h : ChoiceIn (p .«empty_len») 
         writes = omega (arith, writes-fit p s);
       }
 
-  -- the state between, with the page in its frame; C and D have room for that frame
+  -- r is the state between with the page in its frame, and C and D have room for that frame
   module _ (q n : ℕ) {r : Pool}
       (all : (t : State) → x .pool ≡ poolOf t → x .frame < length (t .page) → r ≡ poolOf (counted 1 n (withPageIn (x .frame) q t))) where
     filled-is : r ≡ poolOf (counted 1 n (withPageIn (x .frame) q (taken (stateOf p) k .state)))
@@ -181,28 +171,48 @@ module _ (p : Pool) (s : Sound p) (k : Choice) (h : ChoiceIn (p .«empty_len») 
         let l : length (taken (stateOf p) k .state .page) ≡ p .frames = ap length (inside .page) ∙ s .good .paged in
         all (taken (stateOf p) k .state) (ap (λ (y : Freed). y .pool) e) (omega (arith, frame-is, inside .frame))
 
-    pub filled-clean : r .«clean_len» < places
-    filled-clean =
+    pub filled-rooms : (r .«clean_len» < places) × (r .«dirty_len» < places)
+    filled-rooms =
         let c : r .«clean_len» ≡ length (taken (stateOf p) k .state .lists .C) = ap (λ (y : Pool). y .«clean_len») filled-is in
-        omega (arith, inside .clean)
-
-    pub filled-dirty : r .«dirty_len» < places
-    filled-dirty =
         let d : r .«dirty_len» ≡ length (taken (stateOf p) k .state .lists .D) = ap (λ (y : Pool). y .«dirty_len») filled-is in
-        omega (arith, inside .dirty)
+        (omega (arith, inside .clean), omega (arith, inside .dirty))
 
-    pub fault-is : (op : Op) {y : Pool} → ((t : State) → r ≡ poolOf t → y ≡ poolOf (fronted op (x .frame) t))
-        → k ≡ chosenBy (p .«empty_len») (p .«clean_len») (p .«dirty_len») (p .target) → n ≡ writesOf (x .victim)
-        → _≡_ {A = Step} (record { pool = y; frame = x .frame; answer = Fault (x .victim) }) (stepOf (faulted op (stateOf p) q))
-    fault-is op {y} front c m =
+    pub taken-is : k ≡ chosenBy (p .«empty_len») (p .«clean_len») (p .«dirty_len») (p .target) → n ≡ writesOf (x .victim)
+        → _≡_ {A = Freed} (record { pool = r; frame = x .frame; victim = x .victim }) (freedOf (filled q (taken (stateOf p) (chosen (stateOf p)))))
+    taken-is c m =
         let t : State = taken (stateOf p) k .state in
-        let a : y ≡ poolOf (counted 1 n (loaded op (x .frame) q t)) = front (counted 1 n (withPageIn (x .frame) q t)) filled-is ∙ ap poolOf (fronted-loaded op (x .frame) q n t) in
-        let one : _≡_ {A = Step} (record { pool = y; frame = x .frame; answer = Fault (x .victim) }) (stepOf (faultInto op q (taken (stateOf p) k))) =
+        let one : _≡_ {A = Freed} (record { pool = r; frame = x .frame; victim = x .victim }) (freedOf (filled q (taken (stateOf p) k))) =
         λ i. record {
-          pool = (a ∙ (λ j. poolOf (counted 1 ((m ∙ ap (λ (z : Freed). writesOf (z .victim)) e) j) (loaded op (frame-is j) q t)))) i;
+          pool = (filled-is ∙ (λ j. poolOf (counted 1 ((m ∙ ap (λ (z : Freed). writesOf (z .victim)) e) j) (withPageIn (frame-is j) q t)))) i;
           frame = frame-is i;
-          answer = Fault (e i .victim);
+          victim = e i .victim;
         } in
         let which : k ≡ chosen (stateOf p) =
         c ∙ (λ i. chosenBy (sym (empty-holds p s .len) i) (sym (clean-holds p s .len) i) (sym (dirty-holds p s .len) i) (p .target)) in
-        one ∙ ap (λ (z : Choice). stepOf (faultInto op q (taken (stateOf p) z))) which
+        one ∙ ap (λ (z : Choice). freedOf (filled q (taken (stateOf p) z))) which
+
+-- ---- the frame that was taken and filled goes to a front
+
+module _ (s : State) (q : ℕ) (x : Freed) (e : x ≡ freedOf (filled q (taken s (chosen s)))) where
+  abbrev between : State
+  between = filled q (taken s (chosen s)) .state
+
+  pub fault-read : {y : Pool} → ((t : State) → x .pool ≡ poolOf t → y ≡ poolOf (withLists (t .lists .E) (x .frame ∷ t .lists .C) (t .lists .D) t))
+      → _≡_ {A = Step} (record { pool = y; frame = x .frame; answer = Fault (x .victim) }) (stepOf (faulted Read s q))
+  fault-read front =
+      let a = front between (ap (λ (z : Freed). z .pool) e) in
+      λ i. record {
+        pool = (a ∙ (λ j. poolOf (withLists (between .lists .E) (e j .frame ∷ between .lists .C) (between .lists .D) between))) i;
+        frame = e i .frame;
+        answer = Fault (e i .victim);
+      }
+
+  pub fault-write : {y : Pool} → ((t : State) → x .pool ≡ poolOf t → y ≡ poolOf (withLists (t .lists .E) (t .lists .C) (x .frame ∷ t .lists .D) t))
+      → _≡_ {A = Step} (record { pool = y; frame = x .frame; answer = Fault (x .victim) }) (stepOf (faulted Write s q))
+  fault-write front =
+      let a = front between (ap (λ (z : Freed). z .pool) e) in
+      λ i. record {
+        pool = (a ∙ (λ j. poolOf (withLists (between .lists .E) (between .lists .C) (e j .frame ∷ between .lists .D) between))) i;
+        frame = e i .frame;
+        answer = Fault (e i .victim);
+      }

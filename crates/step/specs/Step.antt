@@ -2,7 +2,8 @@
 -- Assumes nothing.
 use Prim.Native.Nat.{ℕ}
 use Rattle.model.specs.Target.{Costs}
-use Rattle.model.specs.Request.{Taken, Outcome}
+use Rattle.model.specs.State.{counted, withPageIn}
+use Rattle.model.specs.Request.{Taken, writesOf, Outcome}
 use Rattle.pool.specs.Pool.{poolOf}
 use Rattle.step.specs.declared.Step.{Step}
 use Rattle.step.specs.declared.Freed.{Freed}
@@ -19,3 +20,7 @@ stepOf o = record { pool = poolOf (o .state); frame = o .frame; answer = o .answ
 
 abbrev pub freedOf : Taken → Freed
 freedOf t = record { pool = poolOf (t .state); frame = t .frame; victim = t .victim }
+
+-- a frame that was taken, filled with page q
+abbrev pub filled : ℕ → Taken → Taken
+filled q t = record { state = counted 1 (writesOf (t .victim)) (withPageIn (t .frame) q (t .state)); frame = t .frame; victim = t .victim }

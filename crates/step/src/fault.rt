@@ -6,9 +6,9 @@ ghost use lib.ListN.{length};
 ghost use Rattle.order.specs.Places.{places};
 ghost use Rattle.model.specs.Numbers.{mostServed};
 ghost use Rattle.model.specs.State.{State, withLists, withPageIn, counted};
-ghost use Rattle.model.specs.Request.{ChoiceIn, taken, writesOf, faulted};
+ghost use Rattle.model.specs.Request.{chosen, ChoiceIn, taken, writesOf, faulted};
 ghost use Rattle.pool.specs.Pool.{poolOf, stateOf, Sound};
-ghost use Rattle.step.specs.Step.{stepOf, freedOf};
+ghost use Rattle.step.specs.Step.{stepOf, freedOf, filled};
 use crate::Freed;
 use crate::Step;
 use crate::policy;
@@ -152,9 +152,10 @@ fn front_dirty(pool: Pool, frame: u8) -> Pool
     next
 }
 
-pub fn fault(pool: Pool, page: u16, op: Op) -> Step
+// The frame that the policy chooses, out of its list and filled with the page. C and D have room for it.
+fn take_frame(pool: Pool, page: u16) -> Freed
     requires { ⌜ Sound pool ⌝ }
-    ensures { λ r. ⌜ r ≡ stepOf (faulted op (stateOf pool) page) ⌝ }
+    ensures { λ r. ⌜ (r ≡ freedOf (filled page (taken (stateOf pool) (chosen (stateOf pool))))) × (r .frame < places) × (r .pool .«clean_len» < places) × (r .pool .«dirty_len» < places) ⌝ }
 {
     let choice = policy::choose(pool.empty_len, pool.clean_len, pool.dirty_len, pool.target);
     let freed = free(pool, choice);
@@ -162,23 +163,42 @@ pub fn fault(pool: Pool, page: u16, op: Op) -> Step
     let victim = freed.victim;
     let rest = freed.pool;
     let writes = writes_of(victim);
-    let filled = fill(rest, frame, page, writes);
-    match op {
-        Op::Read => {
-            let next = front_clean(filled, frame);
-            Step {
-                pool: next,
-                frame: frame as usize,
-                answer: Answer::Fault(victim),
-            }
-        }
-        Op::Write => {
-            let next = front_dirty(filled, frame);
-            Step {
-                pool: next,
-                frame: frame as usize,
-                answer: Answer::Fault(victim),
-            }
-        }
+    let next = fill(rest, frame, page, writes);
+    Freed {
+        pool: next,
+        frame,
+        victim,
+    }
+}
+
+pub fn read(pool: Pool, page: u16) -> Step
+    requires { ⌜ Sound pool ⌝ }
+    ensures { λ r. ⌜ r ≡ stepOf (faulted Op.Read (stateOf pool) page) ⌝ }
+{
+    let taken = take_frame(pool, page);
+    let frame = taken.frame;
+    let victim = taken.victim;
+    let rest = taken.pool;
+    let next = front_clean(rest, frame);
+    Step {
+        pool: next,
+        frame: frame as usize,
+        answer: Answer::Fault(victim),
+    }
+}
+
+pub fn write(pool: Pool, page: u16) -> Step
+    requires { ⌜ Sound pool ⌝ }
+    ensures { λ r. ⌜ r ≡ stepOf (faulted Op.Write (stateOf pool) page) ⌝ }
+{
+    let taken = take_frame(pool, page);
+    let frame = taken.frame;
+    let victim = taken.victim;
+    let rest = taken.pool;
+    let next = front_dirty(rest, frame);
+    Step {
+        pool: next,
+        frame: frame as usize,
+        answer: Answer::Fault(victim),
     }
 }

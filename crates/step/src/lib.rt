@@ -80,8 +80,8 @@ fn locate(pool: Pool, wanted: u16) -> Place
 
 // ---- the whole
 
-// A read on a sound pool, with the costs in force. Reads and writes have a function each, with one caller: one for both would not be compiled into its two
-// callers, and at each call a pool would be copied to it and back.
+// A read on a sound pool, with the costs in force. Reads and writes have functions of their own down to `take_frame`: a large function with two callers is not
+// compiled into them, and at each call a pool would be copied to it and back.
 pub fn read(pool: Pool, read_cost: u64, write_cost: u64, page: usize) -> Step
     requires { ⌜ Sound pool ⌝ }
     requires { ⌜ (page < pool .pages) × (1 ≤ «read_cost») × («read_cost» ≤ mostCost) × («write_cost» ≤ mostCost) ⌝ }
@@ -92,7 +92,7 @@ pub fn read(pool: Pool, read_cost: u64, write_cost: u64, page: usize) -> Step
     match place {
         Place::InClean(i) => hit::read_clean(pool, read_cost, write_cost, i),
         Place::InDirty(i) => hit::read_dirty(pool, i),
-        Place::Absent => fault::fault(pool, wanted, Op::Read),
+        Place::Absent => fault::read(pool, wanted),
     }
 }
 
@@ -107,7 +107,7 @@ pub fn write(pool: Pool, read_cost: u64, write_cost: u64, page: usize) -> Step
     match place {
         Place::InClean(i) => hit::write_clean(pool, i),
         Place::InDirty(i) => hit::write_dirty(pool, read_cost, write_cost, i),
-        Place::Absent => fault::fault(pool, wanted, Op::Write),
+        Place::Absent => fault::write(pool, wanted),
     }
 }
 

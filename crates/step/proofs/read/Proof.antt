@@ -35,8 +35,8 @@ read-dirty-requires c κs =
 enum-told : tie.Need-enum-told
 enum-told c = search needs
 
-fault-requires : tie.Need-fault-requires
-fault-requires c κs = search needs
+read-requires : tie.Need-read-requires
+read-requires c κs = search needs
 
 returns : tie.Need-returns
 returns c =
@@ -54,10 +54,10 @@ returns-3 : tie.Need-returns-3
 returns-3 c =
     let u = c .before .before .before in
     let v = u .before in
-    c .fault .ensures ∙ request-is _ (v .pre .0) _ _ (u .locate .ensures) (costs (v .args .read-cost) (v .args .write-cost)) Read (c .before .enum-told .given .1)
+    c .read .ensures ∙ request-is _ (v .pre .0) _ _ (u .locate .ensures) (costs (v .args .read-cost) (v .args .write-cost)) Read (c .before .enum-told .given .1)
 
 pub read-spec : {M : Type 1} → statement M
 read-spec =
     tie.close
     (tie.spec
-    cast-wanted locate-requires enum-known-place read-clean-requires enum-known-place-2 read-dirty-requires enum-told fault-requires returns returns-2 returns-3)
+    cast-wanted locate-requires enum-known-place read-clean-requires enum-known-place-2 read-dirty-requires enum-told read-requires returns returns-2 returns-3)

@@ -35,8 +35,8 @@ write-dirty-requires c κs =
 enum-told : tie.Need-enum-told
 enum-told c = search needs
 
-fault-requires : tie.Need-fault-requires
-fault-requires c κs = search needs
+write-requires : tie.Need-write-requires
+write-requires c κs = search needs
 
 returns : tie.Need-returns
 returns c =
@@ -54,10 +54,10 @@ returns-3 : tie.Need-returns-3
 returns-3 c =
     let u = c .before .before .before in
     let v = u .before in
-    c .fault .ensures ∙ request-is _ (v .pre .0) _ _ (u .locate .ensures) (costs (v .args .read-cost) (v .args .write-cost)) Write (c .before .enum-told .given .1)
+    c .write .ensures ∙ request-is _ (v .pre .0) _ _ (u .locate .ensures) (costs (v .args .read-cost) (v .args .write-cost)) Write (c .before .enum-told .given .1)
 
 pub write-spec : {M : Type 1} → statement M
 write-spec =
     tie.close
     (tie.spec
-    cast-wanted locate-requires enum-known-place write-clean-requires enum-known-place-2 write-dirty-requires enum-told fault-requires returns returns-2 returns-3)
+    cast-wanted locate-requires enum-known-place write-clean-requires enum-known-place-2 write-dirty-requires enum-told write-requires returns returns-2 returns-3)
