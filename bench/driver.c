@@ -1,18 +1,11 @@
-/* driver LOAD b P N n: one load of n calls after a warm-up, for counting instructions. Two values of n, and the difference divided, give the cost of a call.
+/* driver LOAD b P N n [SEED]: one load of n calls after a warm-up, for counting instructions. Two values of n, and the difference divided, give the cost of a call.
    Loads: trace (80 % of reads go to hot pages), front, last, spread (read hits at the front, at the last place, uniform), clean, dirty (faults), flush
-   (64 writes and a flush each), sound (totals), none (no call). */
+   (64 writes and a flush each), sound (totals), none (no call). Another SEED than 0 draws other pages. */
 #include "bench.h"
+#include "random.h"
 #include <stdio.h>
 #include <stdlib.h>
 #include <string.h>
-
-static u64 seed = 88172645463325252ull;
-
-static u64 next(void)
-{
-    seed ^= seed << 13, seed ^= seed >> 7, seed ^= seed << 17;
-    return seed >> 11;
-}
 
 static u8 *ops;
 static u16 *pages;
@@ -26,8 +19,10 @@ static void add(int op, u64 page)
 
 int main(int argc, char **argv)
 {
-    if (argc != 6)
+    if (argc != 6 && argc != 7)
         return 2;
+    if (argc == 7)
+        seed += strtoull(argv[6], 0, 10) * 0x9e3779b97f4a7c15ull;
     const char *load = argv[1];
     u64 b = strtoull(argv[2], 0, 10), P = strtoull(argv[3], 0, 10), N = strtoull(argv[4], 0, 10), n = strtoull(argv[5], 0, 10), totals = 0;
     u64 room = (n + 2) * (b + 2) + 4 * b;

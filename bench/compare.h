@@ -1,0 +1,13 @@
+/* One side of the comparison: the calls of the twin or of the best C, under one type. */
+#include "pool.h"
+
+typedef struct {
+    int (*sound)(const pool *);
+    pool (*opened)(u64 b, u64 size, u64 pages, u64 r, u64 w);
+    served (*read_page)(pool, u64 page, u8 *frames, u64 fn, u8 *store, u64 sn, u8 *out, u64 on);
+    served (*write_page)(pool, u64 page, u64 start, const u8 *bytes, u64 n, u8 *frames, u64 fn, u8 *store, u64 sn);
+    served (*flush)(pool, const u8 *frames, u64 fn, u8 *store, u64 sn);
+    u64 (*total_at)(pool *, u64 target, u64 *cost);
+} side;
+
+extern const side twin, best;
