@@ -1,6 +1,7 @@
-/* driver LOAD b P N n [SEED]: one load of n calls after a warm-up, for counting instructions. Two values of n, and the difference divided, give the cost of a call.
+/* driver LOAD b P N n SEED SERVED: makes a load of n calls behind a warm-up and serves it, or with SERVED 0 the warm-up alone, for counting instructions. The
+   difference between the two, for two values of n, is what the calls cost, without the making of the load.
    Loads: trace (80 % of reads go to hot pages), front, last, spread (read hits at the front, at the last place, uniform), clean, dirty (faults), flush
-   (64 writes and a flush each), sound (totals), none (no call). Another SEED than 0 draws other pages. */
+   (64 writes and a flush each), sound (totals). Another SEED than 0 draws other pages. */
 #include "bench.h"
 #include "random.h"
 #include <stdio.h>
@@ -19,10 +20,10 @@ static void add(int op, u64 page)
 
 int main(int argc, char **argv)
 {
-    if (argc != 6 && argc != 7)
+    if (argc != 8)
         return 2;
-    if (argc == 7)
-        seed += strtoull(argv[6], 0, 10) * 0x9e3779b97f4a7c15ull;
+    seed += strtoull(argv[6], 0, 10) * 0x9e3779b97f4a7c15ull;
+    int served = argv[7][0] != '0';
     const char *load = argv[1];
     u64 b = strtoull(argv[2], 0, 10), P = strtoull(argv[3], 0, 10), N = strtoull(argv[4], 0, 10), n = strtoull(argv[5], 0, 10), totals = 0;
     u64 room = (n + 2) * (b + 2) + 4 * b;
@@ -54,6 +55,8 @@ int main(int argc, char **argv)
         } else if (!strcmp(load, "sound"))
             totals = n;
     }
+    if (!served)
+        made = warm, totals = 0;
     u64 r = bench_serve(b, P, N, ops, made, pages, made, frames, b * P, store, N * P, out, P, totals);
     printf("%llu\n", r);
     return 0;
