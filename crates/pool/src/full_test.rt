@@ -75,12 +75,12 @@ fn count_frame(list: &[u8; PLACES], f: u8) -> usize
     n as usize
 }
 
-// Whether frame f stands once in the lists, and its page q in no other frame.
-fn stands_alone(c: &[u8; PLACES], d: &[u8; PLACES], page: &[u16; PLACES], f: u8, q: u16) -> bool
-    requires { ⌜ (length (now c) ≡ places) × (length (now d) ≡ places) × (length (now page) ≡ places) ⌝ }
-    ensures { λ r. ⌜ (r ≡ true → Alone (now (c .entry)) (now (d .entry)) (now (page .entry)) f q) ⌝ }
+// Whether frame f stands once in the lists, and its page in no other frame.
+fn stands_alone(c: &[u8; PLACES], d: &[u8; PLACES], page: &[u16; PLACES], f: u8) -> bool
+    requires { ⌜ (length (now c) ≡ places) × (length (now d) ≡ places) × (length (now page) ≡ places) × (f < places) ⌝ }
+    ensures { λ r. ⌜ (r ≡ true → Alone (now (c .entry)) (now (d .entry)) (now (page .entry)) f (getD (now (page .entry)) f 0)) ⌝ }
 {
-    if page_test::count_in(page, PLACES, q) != 1 {
+    if page_test::count_in(page, PLACES, page[f as usize]) != 1 {
         return false;
     }
     count_frame(c, f) + count_frame(d, f) == 1
@@ -103,12 +103,11 @@ fn walk_far(
     let mut i = 0;
     while i < n {
         let f = list[i];
-        let q = page[frame_test::wide(f)];
-        let k = wide16(q % 2048);
+        let k = wide16(page[frame_test::wide(f)] % 2048);
         let was = marks[k];
         marks[k] = 1;
         if was != 0 {
-            if !stands_alone(c, d, page, f, q) {
+            if !stands_alone(c, d, page, f) {
                 return false;
             }
         }

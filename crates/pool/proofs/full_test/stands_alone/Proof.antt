@@ -8,6 +8,12 @@ use borrow.Author.Tests.{eqb-true}
 use Rattle.pool.proofs.full_test.stands_alone.Statement.{statement}
 use Rattle.pool.proofs.full_test.stands_alone.Tie as tie
 
+mul-count-in : tie.Need-mul-count-in
+mul-count-in c = search needs
+
+element-copy-out-count-in : tie.Need-element-copy-out-count-in
+element-copy-out-count-in c = search needs
+
 count-in-requires : tie.Need-count-in-requires
 count-in-requires c κs = search needs
 
@@ -33,4 +39,4 @@ returns-2 c e =
     }
 
 pub stands-alone-spec : {M : Type 1} → statement M
-stands-alone-spec = tie.close (tie.spec count-in-requires returns count-frame-requires count-frame-requires-2 add-result returns-2)
+stands-alone-spec = tie.close (tie.spec mul-count-in element-copy-out-count-in count-in-requires returns count-frame-requires count-frame-requires-2 add-result returns-2)

@@ -1,7 +1,7 @@
 -- `pool::full_test::walk_far` meets its contract. The loop's invariant: with the pages from place `i` of the list on still to be marked, the marks come out as if all
 -- were marked from the start; and where each frame to come meets no mark or stands alone, so does each of all. The measure is how many frames are left.
 -- Assumes nothing.
-use mathlib.Core.Path.{_≡_, refl, ap, _∙_, subst}
+use mathlib.Core.Path.{_≡_, refl, sym, ap, _∙_}
 use mathlib.Core.Bool.{true, false≢true}
 use mathlib.Core.Logic.{_≢_, ⊎-elim}
 use Prim.Native.Nat.{ℕ, _-_, _%_, _≤_, _<_}
@@ -42,11 +42,11 @@ frame-low c =
 mark-low : (c : tie.After-wide16 Inv-loop μ-loop) → c .wide16 .result < 2048
 mark-low c = omega (arith, c .wide16 .ensures)
 
-mul-q : tie.Need-mul-q Inv-loop μ-loop
-mul-q c = omega (arith, frame-low c)
+mul-wide16 : tie.Need-mul-wide16 Inv-loop μ-loop
+mul-wide16 c = omega (arith, frame-low c)
 
-element-copy-out-q : tie.Need-element-copy-out-q Inv-loop μ-loop
-element-copy-out-q c = frame-low c
+element-copy-out-wide16 : tie.Need-element-copy-out-wide16 Inv-loop μ-loop
+element-copy-out-wide16 c = frame-low c
 
 wide16-requires : tie.Need-wide16-requires Inv-loop μ-loop
 wide16-requires c κs = search needs
@@ -58,7 +58,10 @@ element-write-marks : tie.Need-element-write-marks Inv-loop μ-loop
 element-write-marks c = mark-low (c .before)
 
 stands-alone-requires : tie.Need-stands-alone-requires Inv-loop μ-loop
-stands-alone-requires c κs = search needs
+stands-alone-requires c κs =
+    let wide = c .before .before .before .before in
+    let p = wide .before .before .before .before .pre .1 in
+    (p .0, p .1, p .2, rw (sym (wide .wide .ensures .0)) (frame-low wide))
 
 returns : tie.Need-returns Inv-loop μ-loop
 returns c = (λ e. absurd (false≢true e), λ e. absurd (false≢true e))
@@ -81,9 +84,7 @@ loop-again c =
       turn-slots (a .c .now) (a .d .now) (a .page .now) (l .marks) e h (l .inv .1),
       turn-apart (a .c .now) (a .d .now) (a .page .now) (l .marks) e h
           (⊎-elim
-          (λ x n.
-          subst (λ (z : ℕ). Alone (a .c .now) (a .d .now) (a .page .now) (getD (a .list .now) (l .i) 0) (getD (a .page .now) z 0)) (v .wide .ensures .0)
-          (x .1 .ensures (not-false _ (x .2 .left))))
+          (λ x n. x .1 .ensures (not-false _ (x .2 .left)))
           (λ x n. absurd (n (x .left)))
           (c .if1 .came))
           (l .inv .2),
@@ -105,8 +106,8 @@ walk-far-spec =
     loop-holds
     element-copy-out-f
     wide-requires
-    mul-q
-    element-copy-out-q
+    mul-wide16
+    element-copy-out-wide16
     wide16-requires
     element-copy-out-was
     element-write-marks
