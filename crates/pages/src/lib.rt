@@ -39,35 +39,15 @@ fn copy_page(to: &mut [u8], from: &[u8])
     }
 }
 
-// Page `index` of `all` becomes `bytes`, and no other byte changes.
-fn put_page(all: &mut [u8], size: usize, index: usize, bytes: &[u8])
-    requires { ⌜ length (now bytes) ≡ size ⌝ }
-    requires { ⌜ InPages size index (length (now all)) ⌝ }
-    ensures { λ _. ⌜ now (all .exit) ≡ withPage size index (now (bytes .entry)) (now (all .entry)) ⌝ }
-{
-    let at = index * size;
-    let end = at + size;
-    copy_page(&mut all[at..end], bytes);
-}
-
-// Page `to` of `dst` becomes page `from` of `src`.
-fn move_page(dst: &mut [u8], to: usize, src: &[u8], from: usize, size: usize)
-    requires { ⌜ InPages size to (length (now dst)) ⌝ }
-    requires { ⌜ InPages size from (length (now src)) ⌝ }
-    ensures { λ _. ⌜ now (dst .exit) ≡ withPage size to (pageOf size from (now (src .entry))) (now (dst .entry)) ⌝ }
-{
-    let at = from * size;
-    let end = at + size;
-    put_page(dst, size, to, &src[at..end]);
-}
-
-// The bytes of a frame go to their page of the store.
-pub fn write_back(store: &mut [u8], page: usize, frames: &[u8], frame: usize, size: usize)
+// The bytes of a frame, as that stretch of the frame memory, go to their page of the store, and no other byte of it changes.
+pub fn write_back(store: &mut [u8], page: usize, frame: &[u8], size: usize)
+    requires { ⌜ length (now frame) ≡ size ⌝ }
     requires { ⌜ InPages size page (length (now store)) ⌝ }
-    requires { ⌜ InPages size frame (length (now frames)) ⌝ }
-    ensures { λ _. ⌜ now (store .exit) ≡ withPage size page (pageOf size frame (now (frames .entry))) (now (store .entry)) ⌝ }
+    ensures { λ _. ⌜ now (store .exit) ≡ withPage size page (now (frame .entry)) (now (store .entry)) ⌝ }
 {
-    move_page(store, page, frames, frame, size);
+    let at = page * size;
+    let end = at + size;
+    copy_page(&mut store[at..end], frame);
 }
 
 // A page of the store comes into a frame.
@@ -76,10 +56,14 @@ pub fn fetch(frames: &mut [u8], frame: usize, store: &[u8], page: usize, size: u
     requires { ⌜ InPages size page (length (now store)) ⌝ }
     ensures { λ _. ⌜ now (frames .exit) ≡ withPage size frame (pageOf size page (now (store .entry))) (now (frames .entry)) ⌝ }
 {
-    move_page(frames, frame, store, page, size);
+    let from = page * size;
+    let to = from + size;
+    let at = frame * size;
+    let end = at + size;
+    copy_page(&mut frames[at..end], &store[from..to]);
 }
 
-// A changed page leaves its frame and another comes: the write-back is first, or the change would be lost.
+// A changed page leaves its frame and another comes: the frame's stretch is written back first, or the change would be lost.
 pub fn replace(
     frames: &mut [u8],
     frame: usize,
@@ -94,7 +78,9 @@ pub fn replace(
     ensures { λ _. ⌜ now (store .exit) ≡ withPage size old (pageOf size frame (now (frames .entry))) (now (store .entry)) ⌝ }
     ensures { λ _. ⌜ now (frames .exit) ≡ withPage size frame (pageOf size new (now (store .exit))) (now (frames .entry)) ⌝ }
 {
-    write_back(store, old, frames, frame, size);
+    let at = frame * size;
+    let end = at + size;
+    write_back(store, old, &frames[at..end], size);
     fetch(frames, frame, store, new, size);
 }
 
@@ -138,7 +124,9 @@ pub fn write_back_all(
         i -= 1;
         let f = list[i] as usize;
         let q = page[f] as usize;
-        write_back(store, q, frames, f, size);
+        let at = f * size;
+        let end = at + size;
+        write_back(store, q, &frames[at..end], size);
     }
 }
 

@@ -1,11 +1,12 @@
 -- `pages::write_back_all` meets its contract. The loop's invariant: the frames from place i of the list on are in the store, which is as
--- long as it was; a turn writes one frame more. The measure is i. Assumes nothing.
+-- long as it was; a turn writes one frame more, whose part of `frames` is `pageOf`. The measure is i. Assumes nothing.
 use mathlib.Core.Path.{_≡_, refl, sym}
 use Prim.Native.Nat.{_≤_, _-_}
 use native.Mathlib.Omega.{arith}
 use lib.ListN.{length, getD, take, drop}
 use borrow.Author.Needs.{needs}
 use Rattle.pages.specs.Memory.{writtenBack, FrameIn}
+use Rattle.pages.proofs.Pages.{page-is}
 use Rattle.pages.proofs.Memory.{writtenBack-none, writtenBack-more}
 use Rattle.pages.proofs.write_back_all.Statement.{statement}
 use Rattle.pages.proofs.write_back_all.Tie as tie
@@ -43,20 +44,33 @@ array-read-q c = here c .small
 cast-q : tie.Need-cast-q Inv-loop μ-loop
 cast-q c = search needs
 
+mul-at : tie.Need-mul-at Inv-loop μ-loop
+mul-at c = omega (arith, here c .frame)
+
+add-end : tie.Need-add-end Inv-loop μ-loop
+add-end c = omega (arith, here c .frame)
+
+sub-write-back : tie.Need-sub-write-back Inv-loop μ-loop
+sub-write-back c = search needs
+
+part-write-back-start : tie.Need-part-write-back-start Inv-loop μ-loop
+part-write-back-start c = search needs
+
+part-write-back-end : tie.Need-part-write-back-end Inv-loop μ-loop
+part-write-back-end c = omega (arith, here (c .before) .frame)
+
 write-back-requires : tie.Need-write-back-requires Inv-loop μ-loop
-write-back-requires c κs =
-    let w = here (c .before) in
-    (omega (arith, w .stored), w .frame)
+write-back-requires c κs = (search needs, omega (arith, here (c .before .before) .stored))
 
 loop-less : tie.Need-loop-less Inv-loop μ-loop
 loop-less c = search needs
 
 loop-again : tie.Need-loop-again Inv-loop μ-loop
 loop-again c =
-    let l = c .before .before .before .before .before .loop in
-    let s = c .before .before .before .before .before .before .before .before .args in
+    let l = c .before .before .before .before .before .before .loop in
+    let s = c .before .before .before .before .before .before .before .before .before .args in
     let k : s .n ≤ length (s .t3) = search needs in
-    (omega arith, search needs, rw (c .before .before .write-back .ensures, l .inv .2) (writtenBack-more (s .size) (s .n) (l .i) _ _ (s .t3) _ (omega arith) (omega arith) k))
+    (omega arith, search needs, rw (c .before .before .write-back .ensures, page-is, l .inv .2) (writtenBack-more (s .size) (s .n) (l .i) _ _ (s .t3) _ (omega arith) (omega arith) k))
 
 same-length : tie.Need-same-length Inv-loop μ-loop
 same-length c = search needs
@@ -68,4 +82,8 @@ returns c =
     rw z at (l .inv .2)
 
 pub write-back-all-spec : {M : Type 1} → statement M
-write-back-all-spec = tie.close (tie.spec Inv-loop μ-loop loop-holds sub-i array-read-f cast-f mul-q array-read-q cast-q write-back-requires loop-less loop-again same-length returns)
+write-back-all-spec =
+    tie.close
+    (tie.spec
+    Inv-loop μ-loop loop-holds sub-i array-read-f cast-f mul-q array-read-q cast-q mul-at add-end sub-write-back part-write-back-start part-write-back-end
+    write-back-requires loop-less loop-again same-length returns)

@@ -1,9 +1,9 @@
--- `pages::put_page` meets its contract. The page is lent as a part of `all` and comes back as `bytes`, with the rest as it was, which is
--- `withPage`. Assumes nothing.
+-- `pages::write_back` meets its contract. The page is lent as a part of `store` and comes back as `frame`, with the rest as it was, which is `withPage`.
+-- Assumes nothing.
 use borrow.Author.Needs.{needs}
 use Rattle.pages.proofs.Pages.{page-back}
-use Rattle.pages.proofs.put_page.Statement.{statement}
-use Rattle.pages.proofs.put_page.Tie as tie
+use Rattle.pages.proofs.write_back.Statement.{statement}
+use Rattle.pages.proofs.write_back.Tie as tie
 
 mul-at : tie.Need-mul-at
 mul-at c = search needs
@@ -29,5 +29,5 @@ same-length c = search needs
 returns : tie.Need-returns
 returns c = rw (c .before .before .copy-page .ensures) (page-back _ _ _ _ (search needs))
 
-pub put-page-spec : {M : Type 1} → statement M
-put-page-spec = tie.close (tie.spec mul-at add-end sub-copy-page part-copy-page-start part-copy-page-end copy-page-requires same-length returns)
+pub write-back-spec : {M : Type 1} → statement M
+write-back-spec = tie.close (tie.spec mul-at add-end sub-copy-page part-copy-page-start part-copy-page-end copy-page-requires same-length returns)
