@@ -1,13 +1,14 @@
 // The pool, and the test whether it is sound. The test takes any values at all, and reads each list and the pages a fixed number of times.
 ghost use mathlib.Core.Path.{_≡_};
 ghost use Prim.Native.Nat.{_+_, _≤_};
+ghost use Rattle.order.specs.Places.{places};
 ghost use Rattle.model.specs.Numbers.{inLimits};
 ghost use Rattle.pool.specs.Test.{soundB};
-ghost use Rattle.pool.specs.Parts.{Decides, CountsRight};
+ghost use Rattle.pool.specs.Parts.{Decides, CountsRight, hasBefore};
 
 mod frame_test;
 mod full_test;
-pub mod page_test;
+mod page_test;
 mod tails;
 
 use order::PLACES;
@@ -106,6 +107,24 @@ fn lengths_right(frames: usize, en: usize, cn: usize, dn: usize) -> bool
         return false;
     }
     dn == frames - en - cn
+}
+
+// ---- pages
+
+// Whether the page q stands before place `end`.
+pub fn stands_before(page: &[u16; PLACES], end: usize, q: u16) -> bool
+    requires { ⌜ end ≤ places ⌝ }
+    ensures { λ r. ⌜ r ≡ hasBefore (now (page .entry)) end q ⌝ }
+{
+    let mut found = false;
+    let mut i = 0;
+    while i < end {
+        if page[i] == q {
+            found = true;
+        }
+        i += 1;
+    }
+    found
 }
 
 // ---- the whole

@@ -5,7 +5,7 @@ ghost use Prim.Native.Nat.{ℕ, _≤_, _<_};
 ghost use lib.ListN.{length, getD, take, drop};
 ghost use Rattle.order.specs.Places.{places};
 ghost use Rattle.order.specs.Count.{count};
-ghost use Rattle.pool.specs.Parts.{Decides, every, isZero, isAtMost, hasBefore, nonzeroApart, blankAll, EmptyRight, PagesRight};
+ghost use Rattle.pool.specs.Parts.{Decides, every, isZero, isAtMost, nonzeroApart, blankAll, EmptyRight, PagesRight};
 use order::PLACES;
 
 // Whether the first `frames` pages are at most `top`.
@@ -56,22 +56,6 @@ fn all_blank(list: &[u8; PLACES], n: usize, page: &[u16; PLACES]) -> bool
     true
 }
 
-// Whether the page q stands before place `end`.
-pub fn stands_before(page: &[u16; PLACES], end: usize, q: u16) -> bool
-    requires { ⌜ end ≤ places ⌝ }
-    ensures { λ r. ⌜ r ≡ hasBefore (now (page .entry)) end q ⌝ }
-{
-    let mut found = false;
-    let mut i = 0;
-    while i < end {
-        if page[i] == q {
-            found = true;
-        }
-        i += 1;
-    }
-    found
-}
-
 // Whether no page but 0 stands twice among the first `frames`. A mark at a page's remainder by 2,048 says that an earlier page may be the same,
 // and only then the earlier ones are looked through.
 fn nonzero_apart(page: &[u16; PLACES], frames: usize) -> bool
@@ -88,7 +72,7 @@ fn nonzero_apart(page: &[u16; PLACES], frames: usize) -> bool
             marks[k] = 1;
         } else {
             if q != 0 {
-                if stands_before(page, i, q) {
+                if crate::stands_before(page, i, q) {
                     ok = false;
                 }
             }

@@ -51,7 +51,7 @@ fn place_of(
     requires { ⌜ ((k : ℕ) → k < dn → getD dirty k 0 < places) ⌝ }
     ensures { λ r. ⌜ r ≡ placeBy (findFrom 0 page wanted (take cn clean)) (findFrom 0 page wanted (take dn dirty)) ⌝ }
 {
-    if !pool::page_test::stands_before(&page, PLACES, wanted) {
+    if !pool::stands_before(&page, PLACES, wanted) {
         return Place::Absent;
     }
     let in_clean = order::find(clean, cn, page, wanted);

@@ -1,4 +1,4 @@
--- `pool::page_test::stands_before` meets its contract. The loop's invariant: the flag says whether the page stands before place `i`. The measure is how many
+-- `pool::stands_before` meets its contract. The loop's invariant: the flag says whether the page stands before place `i`. The measure is how many
 -- places are left. Assumes nothing.
 use mathlib.Core.Path.{_≡_, refl, sym, _∙_}
 use mathlib.Core.Logic.{⊎-elim}
@@ -7,8 +7,8 @@ use native.Mathlib.Omega.{arith}
 use borrow.Author.Needs.{needs}
 use Rattle.pool.specs.Parts.{hasBefore}
 use Rattle.pool.proofs.Apart.{hasBefore-hit, hasBefore-miss}
-use Rattle.pool.proofs.page_test.stands_before.Statement.{statement}
-use Rattle.pool.proofs.page_test.stands_before.Tie as tie
+use Rattle.pool.proofs.stands_before.Statement.{statement}
+use Rattle.pool.proofs.stands_before.Tie as tie
 
 abbrev Inv-loop : tie.InvT-loop
 Inv-loop page end q found₀ i₀ found i = (i ≤ end) × (found ≡ hasBefore page i q)
