@@ -2,5 +2,5 @@
 -- `trace`; docs/PROMISES.md says why the other crates need none. Assumes nothing.
 pub use Rattle.casa.proofs.Settled.{open-settled, read-settled, write-settled, flush-settled, total-settled}
 pub use Rattle.lent.proofs.Settled.{read-in-settled, write-in-settled, flush-in-settled}
-pub use Rattle.trace.proofs.Settled.{header-settled, check-settled, record-at-settled, place-after-settled}
+pub use Rattle.trace.proofs.Settled.{header-settled, check-settled, record-at-settled, place-after-settled, first-place-settled}
 pub use Rattle.trace.proofs.Settled.{new-settled, next-settled, moved-settled, nth-settled}

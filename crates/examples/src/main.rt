@@ -376,14 +376,16 @@ fn tell_trace(bytes: &[u8]) {
             number(trailer.records as u64);
         }
     }
-    match trace::record_at(bytes, 0) {
+    let place = trace::first_place(bytes);
+    match trace::record_at(bytes, place) {
         Next::Record(_) => word(b" first there"),
         Next::End => word(b" none"),
     }
     end();
 }
 
-// 19 bytes; 20 bytes with distance 20, no records and numbers that are allowed; the same with b = 65; one record, R 7, and one that is not, R 8.
+// 19 bytes; 20 bytes with distance 20, no records and numbers that are allowed; the same with b = 65; one record, R 7, and one that is not, R 8; R 7 and then
+// R 8, of which a reader yields neither.
 fn traces() {
     let short = [0u8; 19];
     tell_trace(&short);
@@ -391,6 +393,7 @@ fn traces() {
     tell_trace(b"\x14\0\0\0\0\0\0\0\x41\0\x10\0\x08\0\0\0\x01\0\x03\0");
     tell_trace(b"R\0\x07\0\x18\0\0\0\x01\0\0\0\x02\0\x10\0\x08\0\0\0\x01\0\x03\0");
     tell_trace(b"R\0\x08\0\x18\0\0\0\x01\0\0\0\x02\0\x10\0\x08\0\0\0\x01\0\x03\0");
+    tell_trace(b"R\0\x07\0R\0\x08\0\x1c\0\0\0\x02\0\0\0\x02\0\x10\0\x08\0\0\0\x01\0\x03\0");
 }
 
 fn main() {

@@ -1,8 +1,9 @@
--- What the reader finds, told from what the check says of the trace, and where it goes on. Assumes nothing.
-use mathlib.Core.Path.{_≡_, refl}
+-- What the reader finds, told from what the check says of the trace, where it begins and where it goes on. One that the library made of a refused trace
+-- begins where there is no record; where there is none it stays; so it finds none, however often it is moved. Assumes nothing.
+use mathlib.Core.Path.{_≡_, refl, ap, _∙_}
 use mathlib.Core.Bool.{Bool, true, false}
 use mathlib.Core.List.{List, [], _∷_}
-use Prim.Native.Nat.{ℕ, _+_, _*_, _-_, _≤_, _<_}
+use Prim.Native.Nat.{ℕ, zero, suc, _+_, _*_, _-_, _≤_, _<_}
 use native.Mathlib.Omega.{arith}
 use lib.Dec.{eqb, ltb}
 use lib.ListN.{length}
@@ -16,25 +17,31 @@ use Rattle.trace.specs.declared.Trailer.{Trailer}
 use Rattle.trace.specs.declared.Checked.{Checked}
 use Rattle.trace.specs.declared.Checked.the-variants.{Refused, Fine}
 use Rattle.trace.specs.declared.Record.{Record}
+use Rattle.trace.specs.declared.Next.{Next}
 use Rattle.trace.specs.declared.Next.the-variants.{Record as Found, End}
-use Rattle.trace.specs.Format.{trailerLength, trailerAt, numbersIn, pointsBack, notATrace, checkedBy, judged, headerOf, recordAt, isEnd, placeAfter, badIn, checkedAll, checkedOf}
+use Rattle.trace.specs.Format.{trailerLength, trailerAt, numbersIn, pointsBack, notATrace, checkedBy, judged, headerOf, recordIn, startOf, recordAt, isEnd, placeAfter, badIn, checkedAll, checkedOf, firstPlace, placeAfterMoves}
 use Rattle.trace.proofs.Trailers.{header-accepts}
 use Rattle.trace.proofs.Records.{firstBad-none, firstBad-at}
 
 -- ---- what the check says of the header
 
+-- a trace that is refused, but not for its trailer, is refused for its first bad record
+pub refused-record : (s : List ℕ) (t : Trailer) (x : Refusal) → headerOf s ≡ Fine t → checkedOf s ≡ Refused x → (x ≡ BadRecord (badIn s t)) × (1 ≤ badIn s t)
+unfolding checkedOf
+refused-record s t x h e = by (eqb (badIn s t) 0) refl (rw h at e)
+  where
+    by : (b : Bool) → eqb (badIn s t) 0 ≡ b → if-else b (Fine t) (Refused (BadRecord (badIn s t))) ≡ Refused x → (x ≡ BadRecord (badIn s t)) × (1 ≤ badIn s t)
+    by true p d = absurd (let z : _≡_ {A = ℕ} 0 1 = cc in omega arith)
+    by false p d = (cc, omega (arith, eqb-false (badIn s t) 0 p))
+
 -- a trace that is refused, but not for a record, is refused for its trailer
 pub refused-header : (s : List ℕ) (x : Refusal) → ((k : ℕ) → x ≡ BadRecord k → ⊥) → checkedOf s ≡ Refused x → headerOf s ≡ Refused x
 unfolding checkedOf
-refused-header s x other e = go (headerOf s) e
+refused-header s x other e = go (headerOf s) refl
   where
-    by : (b : Bool) (t : Trailer) → if-else b (Fine t) (Refused (BadRecord (badIn s t))) ≡ Refused x → Fine t ≡ Refused x
-    by true t d = d
-    by false t d = absurd (other (badIn s t) (cc))
-
-    go : (h : Checked) → checkedAll h s ≡ Refused x → h ≡ Refused x
-    go (Refused y) d = d
-    go (Fine t) d = by (eqb (badIn s t) 0) t d
+    go : (h : Checked) → headerOf s ≡ h → headerOf s ≡ Refused x
+    go (Refused y) h = h ∙ (rw h at e)
+    go (Fine t) h = absurd (other (badIn s t) (refused-record s t x h e .0))
 
 -- a trace that is not refused has the trailer of its header, and no bad record
 pub fine-header : (s : List ℕ) (t : Trailer) → checkedOf s ≡ Fine t → (headerOf s ≡ Fine t) × (badIn s t ≡ 0)
@@ -70,7 +77,16 @@ header-no-record s k e = by (ltb (length s) trailerLength) e
     by true d = let z : _≡_ {A = ℕ} 0 1 = cc in omega arith
     by false d = back (notATrace (pointsBack (length s) (t .distance) (t .records)) .when) d
 
--- ---- what the reader finds
+-- a trace that is refused for a record has a trailer that is not
+pub bad-header : (s : List ℕ) (k : ℕ) → checkedOf s ≡ Refused (BadRecord k) → (t : Trailer) × (headerOf s ≡ Fine t)
+unfolding checkedOf
+bad-header s k e = go (headerOf s) refl
+  where
+    go : (h : Checked) → headerOf s ≡ h → (t : Trailer) × (headerOf s ≡ Fine t)
+    go (Refused x) h = absurd (header-no-record s k (h ∙ (rw h at e)))
+    go (Fine t) h = (t, h)
+
+-- ---- what the reader finds, at any place: one made by hand may be over any bytes
 
 -- where 7 or 1 refuses the bytes there is no record
 pub refused-none : (s : List ℕ) (x : Refusal) → headerOf s ≡ Refused x → (k : ℕ) → recordAt s k ≡ End
@@ -82,12 +98,16 @@ pub past-none : (s : List ℕ) (t : Trailer) → headerOf s ≡ Fine t → (k : 
 unfolding recordAt
 past-none s t e k h = rw (e, le-ltb k (t .records) h)
 
+-- before that there is the record that its four bytes spell, and none just where 8 refuses that record
+pub recordAt-in : (s : List ℕ) (t : Trailer) → headerOf s ≡ Fine t → (k : ℕ) → k < t .records → recordAt s k ≡ recordIn s (startOf s t k) (t .pages)
+unfolding recordAt
+recordAt-in s t e k h = rw (e, lt-ltb k (t .records) h)
+
 -- a trace that is not refused has a record at each place
 pub fine-record : (s : List ℕ) (t : Trailer) → checkedOf s ≡ Fine t → (k : ℕ) → k < t .records → isEnd (recordAt s k) ≡ false
-unfolding recordAt
 fine-record s t e k h =
     let f = fine-header s t e in
-    rw (f .0, lt-ltb k (t .records) h)
+    rw (recordAt-in s t (f .0) k h)
     (firstBad-none s (t .pages) (length s - t .distance) 0 (t .records) (f .1) k (omega arith) (omega arith))
 
 -- 8 names the first bad record, counted from 1: there is none at its place, and one at each place before it
@@ -98,21 +118,16 @@ pub record BadAt (s : List ℕ) (t : Trailer) (k : ℕ) : Type 0 where
   pub before : (i : ℕ) → i + 1 < k → isEnd (recordAt s i) ≡ false
 
 pub bad-record : (s : List ℕ) (t : Trailer) (k : ℕ) → headerOf s ≡ Fine t → checkedOf s ≡ Refused (BadRecord k) → BadAt s t k
-unfolding checkedOf recordAt
 bad-record s t k h e =
-    let d = by (eqb (badIn s t) 0) refl (rw h at e) in
-    let f = firstBad-at s (t .pages) (length s - t .distance) 0 (t .records) (k - 1) (omega (arith, d .0, d .1)) in
-    let within : k - 1 < t .records = omega (arith, f .within) in
+    let d = refused-record s t (BadRecord k) h e in
+    let n : badIn s t ≡ k = cc in
+    let f = firstBad-at s (t .pages) (length s - t .distance) 0 (t .records) (k - 1) (omega (arith, n, d .1)) in
     record {
-      low = d .1;
-      high = omega (arith, d .1);
-      bad = rw (h, lt-ltb (k - 1) (t .records) within) (f .bad);
-      before = λ i l. rw (h, lt-ltb i (t .records) (omega arith)) (f .before i (omega arith) (omega arith));
+      low = omega (arith, n, d .1);
+      high = omega (arith, n, d .1, f .within);
+      bad = rw (recordAt-in s t h (k - 1) (omega (arith, f .within))) (f .bad);
+      before = λ i l. rw (recordAt-in s t h i (omega (arith, f .within))) (f .before i (omega arith) (omega arith));
     }
-  where
-    by : (b : Bool) → eqb (badIn s t) 0 ≡ b → if-else b (Fine t) (Refused (BadRecord (badIn s t))) ≡ Refused (BadRecord k) → (badIn s t ≡ k) × (1 ≤ k)
-    by true p d = absurd (let z : _≡_ {A = ℕ} 0 1 = cc in omega arith)
-    by false p d = let f : badIn s t ≡ k = cc in (f, omega (arith, eqb-false (badIn s t) 0 p))
 
 -- where there is a record, its four bytes stand before the trailer
 pub found-within : (s : List ℕ) (k : ℕ) (r : Record) → recordAt s k ≡ Found r → 4 * k + 4 + trailerLength ≤ length s
@@ -134,3 +149,33 @@ placeAfter-found s k r e = rw e
 pub placeAfter-end : (s : List ℕ) (k : ℕ) → recordAt s k ≡ End → placeAfter s k ≡ k
 unfolding placeAfter
 placeAfter-end s k e = rw e
+
+-- ---- a reader that the library made
+
+-- one of a trace that is not refused begins at the first record
+pub fine-starts : (s : List ℕ) (t : Trailer) → checkedOf s ≡ Fine t → firstPlace s ≡ 0
+unfolding firstPlace
+fine-starts s t e = rw e
+
+is-end : (x : Next) → isEnd x ≡ true → x ≡ End
+is-end (Found r) e = absurd (let z : _≡_ {A = ℕ} 0 1 = cc in omega arith)
+is-end End e = refl
+
+-- one of a refused trace begins where there is no record
+pub refused-starts : (s : List ℕ) (x : Refusal) → checkedOf s ≡ Refused x → recordAt s (firstPlace s) ≡ End
+unfolding firstPlace
+refused-starts s x e = go (headerOf s) refl
+  where
+    go : (h : Checked) → headerOf s ≡ h → recordAt s (firstPlace s) ≡ End
+    go (Refused y) h = refused-none s y h (firstPlace s)
+    go (Fine t) h =
+        let d = refused-record s t x h e .0 in
+        let p : firstPlace s ≡ badIn s t - 1 = rw (e, d) in
+        rw p (is-end _ (bad-record s t (badIn s t) h (e ∙ ap Refused d) .bad))
+
+-- "A refused trace yields no records": however often it is moved, it finds none
+pub refused-yields-none : (s : List ℕ) (x : Refusal) → checkedOf s ≡ Refused x → (n : ℕ) → recordAt s (placeAfterMoves s n) ≡ End
+refused-yields-none s x e zero = refused-starts s x e
+refused-yields-none s x e (suc n) =
+    let none = refused-yields-none s x e n in
+    rw (placeAfter-end s (placeAfterMoves s n) none) none

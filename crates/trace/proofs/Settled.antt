@@ -14,7 +14,7 @@ use Rattle.trace.specs.declared.Record.the-variants.{Read, Write, Flush}
 use Rattle.trace.specs.declared.Next.{Next}
 use Rattle.trace.specs.declared.Next.the-variants.{Record as Found, End}
 use Rattle.trace.specs.declared.reader.Reader.{Reader}
-use Rattle.trace.specs.Format.{headerOf, recordAt, checkedOf, placeAfter}
+use Rattle.trace.specs.Format.{headerOf, recordAt, checkedOf, placeAfter, firstPlace}
 use Rattle.trace.specs.Words.{checkedSays, nextSays}
 
 -- ---- what is said of a trace
@@ -71,12 +71,16 @@ record-at-settled s k x y a b = next-one-to-one x y (a ∙ sym b)
 pub place-after-settled : (s : List ℕ) (k x y : ℕ) → x ≡ placeAfter s k → y ≡ placeAfter s k → x ≡ y
 place-after-settled s k x y a b = a ∙ sym b
 
+pub first-place-settled : (s : List ℕ) (x y : ℕ) → x ≡ firstPlace s → y ≡ firstPlace s → x ≡ y
+first-place-settled s x y a b = a ∙ sym b
+
 -- ---- what is said of a reader
 
 pub reader-one-to-one : (x y : Reader) → x .trace ≡ y .trace → x .place ≡ y .place → x ≡ y
 reader-one-to-one x y t p i = record { trace = t i; place = p i }
 
-pub new-settled : (trace : RefT (List ℕ)) (x y : Reader) → (x .trace ≡ trace) × (x .place ≡ 0) → (y .trace ≡ trace) × (y .place ≡ 0) → x ≡ y
+pub new-settled : (trace : RefT (List ℕ)) (x y : Reader) → (x .trace ≡ trace) × (x .place ≡ firstPlace (now trace))
+    → (y .trace ≡ trace) × (y .place ≡ firstPlace (now trace)) → x ≡ y
 new-settled trace x y a b = reader-one-to-one x y (a .0 ∙ sym (b .0)) (a .1 ∙ sym (b .1))
 
 pub moved-settled : (r x y : Reader) → (x .trace ≡ r .trace) × (x .place ≡ placeAfter (now (r .trace)) (r .place))

@@ -14,6 +14,7 @@ use lib.ListN.{length, getD, take, drop}
 use Rattle.little.specs.Little.{numberOf}
 use Rattle.model.specs.Numbers.{Numbers, if-else, meant}
 use Rattle.model.specs.Refusals.{Row, first, outOfLimits}
+use Rattle.model.specs.Words.{namedBy}
 use Rattle.model.specs.declared.Refusal.the-variants.{NotATrace, BadRecord}
 use Rattle.model.specs.declared.Verdict.{Verdict}
 use Rattle.model.specs.declared.Verdict.the-variants as verdict
@@ -122,3 +123,19 @@ checkedAll (Fine t) s = if-else (eqb (badIn s t) 0) (Fine t) (Refused (BadRecord
 -- a whole trace: refusals 7, 1 and 8, in that order
 unfoldable pub checkedOf : List ℕ → Checked
 checkedOf s = checkedAll (headerOf s) s
+
+-- ---- a reader that the library made
+
+-- where it begins: at place 0, or where 8 names record k, counted from 1, at the place of that record. "A refused trace yields no records": at that place
+-- there is none, so the reader stays; and where 7 or 1 refuses the trace there is none at any place
+abbrev pub placeBy : Checked → ℕ
+placeBy (Refused x) = getD (namedBy x) 0 1 - 1
+placeBy (Fine t) = 0
+
+unfoldable pub firstPlace : List ℕ → ℕ
+firstPlace s = placeBy (checkedOf s)
+
+-- the place of one that was moved n times
+abbrev pub placeAfterMoves : List ℕ → ℕ → ℕ
+placeAfterMoves s zero = firstPlace s
+placeAfterMoves s (suc n) = placeAfter s (placeAfterMoves s n)

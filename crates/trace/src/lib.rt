@@ -6,7 +6,7 @@ ghost use mathlib.Core.Path.{_≡_};
 ghost use Prim.Native.Nat.{_+_, _*_, _≤_, _<_, _^_};
 ghost use lib.ListN.{length};
 ghost use Rattle.model.specs.Numbers.{inLimits, meant};
-ghost use Rattle.trace.specs.Format.{numberAt, trailerAt, numbersIn, pointsBack, judged, headerOf, recordOf, recordIn, recordAt, firstBad, checkedOf, placeAfter};
+ghost use Rattle.trace.specs.Format.{numberAt, trailerAt, numbersIn, pointsBack, judged, headerOf, recordOf, recordIn, recordAt, firstBad, checkedOf, placeAfter, firstPlace};
 ghost use Rattle.trace.specs.Words.{checkedSays, nextSays};
 use model::Refusal;
 
@@ -258,5 +258,19 @@ pub fn place_after(bytes: &[u8], place: usize) -> usize
     match read_record(bytes, place) {
         Next::Record(_) => place + 1,
         Next::End => place,
+    }
+}
+
+// The place at which a reader begins: the first one, or, where 8 refuses the trace, that of the bad record. No record is there, so that a refused trace
+// yields none.
+pub fn first_place(trace: &[u8]) -> usize
+    ensures { λ r. ⌜ r ≡ firstPlace (now (trace .entry)) ⌝ }
+{
+    match read_all(trace) {
+        Checked::Refused(why) => match why {
+            Refusal::BadRecord(record) => record - 1,
+            _ => 0,
+        },
+        Checked::Fine(_) => 0,
     }
 }

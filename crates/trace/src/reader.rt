@@ -1,9 +1,10 @@
-// A reader that holds the caller's trace and a place in it. It is thin over `record_at` and `place_after`, which take a plain slice; `nth` stands above it
-// for callers that hold none.
+// A reader that holds the caller's trace and a place in it. It is thin over `first_place`, `record_at` and `place_after`, which take a plain slice; `nth`
+// stands above it for callers that hold none.
 ghost use mathlib.Core.Path.{_≡_};
-ghost use Rattle.trace.specs.Format.{recordAt, placeAfter};
+ghost use Rattle.trace.specs.Format.{recordAt, placeAfter, firstPlace};
 ghost use Rattle.trace.specs.Words.{nextSays};
 use crate::Next;
+use crate::first_place;
 use crate::place_after;
 use crate::record_at;
 
@@ -12,11 +13,12 @@ pub struct Reader<'a> {
     pub place: usize,
 }
 
-// A reader at the first record.
+// A reader at the first record. One of a refused trace yields no record, however often it is moved.
 pub fn new<'a>(trace: &'a [u8]) -> Reader<'a>
-    ensures { λ r. ⌜ (r .trace ≡ trace .entry) × (r .place ≡ 0) ⌝ }
+    ensures { λ r. ⌜ (r .trace ≡ trace .entry) × (r .place ≡ firstPlace (now (trace .entry))) ⌝ }
 {
-    Reader { trace, place: 0 }
+    let place = first_place(trace);
+    Reader { trace, place }
 }
 
 // The record at the reader's place.
