@@ -9,52 +9,51 @@ use native.Mathlib.Omega.{arith}
 use lib.Dec.{leb}
 use borrow.Author.Tests.{lt-ltb, le-ltb, le-leb, lt-leb}
 use Rattle.pages.specs.Memory.{sizesMatch}
-use Rattle.model.specs.Numbers.{mostServed}
-use Rattle.model.specs.State.{State}
+use Rattle.model.specs.Numbers.{Numbers, mostServed}
 use Rattle.model.specs.Refusals.{requestVerdict, flushVerdict, stretchFits}
 use Rattle.model.specs.declared.Refusal.the-variants.{BrokenPool, WrongMemory, NoSuchPage, WrongBytes, Spent}
 use Rattle.model.specs.declared.Verdict.the-variants.{Fine, Refused}
 
-abbrev sized : State → ℕ → ℕ → Bool
-sized s m n = sizesMatch (s .numbers .P) (s .numbers .b) (s .numbers .N) m n
+abbrev sized : Numbers → ℕ → ℕ → Bool
+sized a m n = sizesMatch (a .P) (a .b) (a .N) m n
 
-module _ (sound : Bool) (s : State) (m n : ℕ) where
+module _ (sound : Bool) (k : Numbers) (served m n : ℕ) where
   -- ---- a read or a write
 
   module _ (page : ℕ) (fit : Bool) where
-    pub request-broken : sound ≡ false → Refused BrokenPool ≡ requestVerdict sound s m n page fit
+    pub request-broken : sound ≡ false → Refused BrokenPool ≡ requestVerdict sound k served m n page fit
     unfolding requestVerdict
     request-broken a = rw a
 
-    pub request-memory : sound ≡ true → sized s m n ≡ false → Refused WrongMemory ≡ requestVerdict sound s m n page fit
+    pub request-memory : sound ≡ true → sized k m n ≡ false → Refused WrongMemory ≡ requestVerdict sound k served m n page fit
     unfolding requestVerdict
     request-memory a b = rw (a, b)
 
-    module _ (a : sound ≡ true) (b : sized s m n ≡ true) where
-      pub request-page : s .numbers .N ≤ page → Refused NoSuchPage ≡ requestVerdict sound s m n page fit
+    module _ (a : sound ≡ true) (b : sized k m n ≡ true) where
+      pub request-page : k .N ≤ page → Refused NoSuchPage ≡ requestVerdict sound k served m n page fit
       unfolding requestVerdict
       request-page c = rw (a, b, le-leb _ _ c)
 
-      pub request-bytes : page < s .numbers .N → fit ≡ false → Refused WrongBytes ≡ requestVerdict sound s m n page fit
+      pub request-bytes : page < k .N → fit ≡ false → Refused WrongBytes ≡ requestVerdict sound k served m n page fit
       unfolding requestVerdict
       request-bytes c d = rw (a, b, lt-leb _ _ c, d)
 
-      pub request-spent : page < s .numbers .N → fit ≡ true → mostServed ≤ s .counts .served → Refused Spent ≡ requestVerdict sound s m n page fit
+      pub request-spent : page < k .N → fit ≡ true → mostServed ≤ served → Refused Spent ≡ requestVerdict sound k served m n page fit
       unfolding requestVerdict
       request-spent c d e = rw (a, b, lt-leb _ _ c, d, le-leb _ _ e)
 
-      pub request-fine : page < s .numbers .N → fit ≡ true → s .counts .served < mostServed → Fine ≡ requestVerdict sound s m n page fit
+      pub request-fine : page < k .N → fit ≡ true → served < mostServed → Fine ≡ requestVerdict sound k served m n page fit
       unfolding requestVerdict
       request-fine c d e = rw (a, b, lt-leb _ _ c, d, lt-leb _ _ e)
 
 -- ---- a flush
 
 -- page 0 is in every store that has a page, and no bytes are wrong, so these two rows never refuse
-pub flush-as-request : (sound : Bool) (s : State) (m n : ℕ) → (sound ≡ true → 0 < s .numbers .N)
-    → requestVerdict sound s m n 0 true ≡ flushVerdict sound s m n
+pub flush-as-request : (sound : Bool) (k : Numbers) (served m n : ℕ) → (sound ≡ true → 0 < k .N)
+    → requestVerdict sound k served m n 0 true ≡ flushVerdict sound k served m n
 unfolding requestVerdict flushVerdict
-flush-as-request false s m n h = refl
-flush-as-request true s m n h = rw (lt-leb (s .numbers .N) 0 (h refl))
+flush-as-request false k served m n h = refl
+flush-as-request true k served m n h = rw (lt-leb (k .N) 0 (h refl))
 
 -- ---- a stretch of n bytes from `start` on
 

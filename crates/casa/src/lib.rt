@@ -1,8 +1,10 @@
 // The public calls of the page buffer, on a pool that is handed in and handed back: open, read, write, flush and total. Every call takes any numbers, any
 // bytes and any pool; what cannot be served is refused with the scope's number, and a refused call changes nothing.
 ghost use mathlib.Core.Path.{_≡_};
+ghost use mathlib.Core.List.{[]};
 ghost use Rattle.model.specs.Words.{costingSays};
-ghost use Rattle.casa.specs.Calls.{numbers, openBy, openAfter, openLeft, readAfter, readLeft, writeAfter, writeLeft, flushAfter, flushLeft, totalAfter};
+ghost use Rattle.model.specs.Run as run;
+ghost use Rattle.casa.specs.Calls.{numbers, openBy, openAfter, openLeft, after, servedLeft, flushedLeft};
 
 mod fresh;
 mod refusal;
@@ -89,7 +91,7 @@ pub fn read_page(
     store: &mut [u8],
     out: &mut [u8],
 ) -> Served
-    ensures { λ r. ⌜ readLeft r (now (frames .exit)) (now (store .exit)) (now (out .exit)) ≡ readAfter pool page (now (frames .entry)) (now (store .entry)) (now (out .entry)) ⌝ }
+    ensures { λ r. ⌜ servedLeft r (now (frames .exit)) (now (store .exit)) (now (out .exit)) ≡ after pool (now (frames .entry)) (now (store .entry)) (run.read page (now (out .entry))) ⌝ }
 {
     let size = pool.page_bytes;
     let fit = out.len() == size;
@@ -114,7 +116,7 @@ pub fn write_page(
     frames: &mut [u8],
     store: &mut [u8],
 ) -> Served
-    ensures { λ r. ⌜ writeLeft r (now (frames .exit)) (now (store .exit)) ≡ writeAfter pool page start (now (bytes .entry)) (now (frames .entry)) (now (store .entry)) ⌝ }
+    ensures { λ r. ⌜ servedLeft r (now (frames .exit)) (now (store .exit)) [] ≡ after pool (now (frames .entry)) (now (store .entry)) (run.write page start (now (bytes .entry))) ⌝ }
 {
     let fit = refusal::stretch_fits(pool.page_bytes, start, bytes.len());
     let verdict = refusal::request_verdict(pool, frames.len(), store.len(), page, fit);
@@ -131,7 +133,7 @@ pub fn write_page(
 
 // Writes every changed page to the store. Refused: 2, 3, 6.
 pub fn flush(pool: Pool, frames: &[u8], store: &mut [u8]) -> Flushed
-    ensures { λ r. ⌜ flushLeft r (now (store .exit)) ≡ flushAfter pool (now (frames .entry)) (now (store .entry)) ⌝ }
+    ensures { λ r. ⌜ flushedLeft r (now (frames .entry)) (now (store .exit)) ≡ after pool (now (frames .entry)) (now (store .entry)) run.flush ⌝ }
 {
     let verdict = refusal::flush_verdict(pool, frames.len(), store.len());
     match verdict {
@@ -147,7 +149,7 @@ pub fn flush(pool: Pool, frames: &[u8], store: &mut [u8]) -> Flushed
 
 // The cost of all physical reads and writes: here alone they meet. Refused: 2.
 pub fn total(pool: Pool) -> Costing
-    ensures { λ r. ⌜ costingSays r ≡ totalAfter pool ⌝ }
+    ensures { λ r. ⌜ costingSays r ≡ after pool [] [] run.total .said ⌝ }
 {
     if !pool::sound(pool) {
         return Costing::Refused(Refusal::BrokenPool);

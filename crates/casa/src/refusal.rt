@@ -1,7 +1,7 @@
 // Whether a call is refused, and why.
 ghost use mathlib.Core.Path.{_≡_};
 ghost use Rattle.model.specs.Refusals.{requestVerdict, flushVerdict, stretchFits};
-ghost use Rattle.pool.specs.Pool.{stateOf};
+ghost use Rattle.pool.specs.Pool.{numbersIn};
 ghost use Rattle.pool.specs.Test.{soundB};
 use model::Refusal;
 use model::Verdict;
@@ -12,7 +12,7 @@ const MOST_SERVED: u64 = 1000000000;
 
 // Of a read or a write: `m` bytes of frame memory and `n` of store are lent, and `fit` says whether the caller's own bytes fit.
 pub fn request_verdict(pool: Pool, m: usize, n: usize, page: usize, fit: bool) -> Verdict
-    ensures { λ r. ⌜ r ≡ requestVerdict (soundB pool) (stateOf pool) m n page fit ⌝ }
+    ensures { λ r. ⌜ r ≡ requestVerdict (soundB pool) (numbersIn pool) (pool .served) m n page fit ⌝ }
 {
     if !pool::sound(pool) {
         return Verdict::Refused(Refusal::BrokenPool);
@@ -34,7 +34,7 @@ pub fn request_verdict(pool: Pool, m: usize, n: usize, page: usize, fit: bool) -
 
 // A flush names no page and no bytes: it is refused as a fitting request for page 0 is, which every sound pool has.
 pub fn flush_verdict(pool: Pool, m: usize, n: usize) -> Verdict
-    ensures { λ r. ⌜ r ≡ flushVerdict (soundB pool) (stateOf pool) m n ⌝ }
+    ensures { λ r. ⌜ r ≡ flushVerdict (soundB pool) (numbersIn pool) (pool .served) m n ⌝ }
 {
     request_verdict(pool, m, n, 0, true)
 }

@@ -1,11 +1,13 @@
 // Calls that are not refused.
 ghost use mathlib.Core.Path.{_≡_};
 ghost use Prim.Native.Nat.{_+_, _≤_};
+ghost use mathlib.Core.List.{[]};
 ghost use lib.ListN.{length};
 ghost use Rattle.pages.specs.Pages.{InPages};
 ghost use Rattle.model.specs.Bytes.{brought};
+ghost use Rattle.model.specs.Run as run;
 ghost use Rattle.pool.specs.Pool.{Sound};
-ghost use Rattle.casa.specs.Calls.{memory, AnswerIn, Lent, readServed, readLeft, writeServed, writeLeft, flushServed, flushLeft};
+ghost use Rattle.casa.specs.Calls.{memory, AnswerIn, Lent, servedAfter, servedLeft, flushedLeft};
 use crate::Flushed;
 use crate::Served;
 use model::Answer;
@@ -54,7 +56,7 @@ pub fn serve_read(
     requires { ⌜ Sound pool ⌝ }
     requires { ⌜ Lent pool (length (now frames)) (length (now store)) page ⌝ }
     requires { ⌜ length (now out) ≡ pool .«page_bytes» ⌝ }
-    ensures { λ r. ⌜ readLeft r (now (frames .exit)) (now (store .exit)) (now (out .exit)) ≡ readServed pool page (now (frames .entry)) (now (store .entry)) ⌝ }
+    ensures { λ r. ⌜ servedLeft r (now (frames .exit)) (now (store .exit)) (now (out .exit)) ≡ servedAfter pool (now (frames .entry)) (now (store .entry)) (run.read page (now (out .entry))) ⌝ }
 {
     let size = pool.page_bytes;
     let read = step::read(pool, pool.read_cost, pool.write_cost, page);
@@ -77,7 +79,7 @@ pub fn serve_write(
     requires { ⌜ Sound pool ⌝ }
     requires { ⌜ Lent pool (length (now frames)) (length (now store)) page ⌝ }
     requires { ⌜ start + length (now bytes) ≤ pool .«page_bytes» ⌝ }
-    ensures { λ r. ⌜ writeLeft r (now (frames .exit)) (now (store .exit)) ≡ writeServed pool page start (now (bytes .entry)) (now (frames .entry)) (now (store .entry)) ⌝ }
+    ensures { λ r. ⌜ servedLeft r (now (frames .exit)) (now (store .exit)) [] ≡ servedAfter pool (now (frames .entry)) (now (store .entry)) (run.write page start (now (bytes .entry))) ⌝ }
 {
     let size = pool.page_bytes;
     let wrote = step::write(pool, pool.read_cost, pool.write_cost, page);
@@ -92,7 +94,7 @@ pub fn serve_write(
 pub fn serve_flush(pool: Pool, frames: &[u8], store: &mut [u8]) -> Flushed
     requires { ⌜ Sound pool ⌝ }
     requires { ⌜ Lent pool (length (now frames)) (length (now store)) 0 ⌝ }
-    ensures { λ r. ⌜ flushLeft r (now (store .exit)) ≡ flushServed pool (now (frames .entry)) (now (store .entry)) ⌝ }
+    ensures { λ r. ⌜ flushedLeft r (now (frames .entry)) (now (store .exit)) ≡ servedAfter pool (now (frames .entry)) (now (store .entry)) run.flush ⌝ }
 {
     let size = pool.page_bytes;
     let n = pool.dirty_len;

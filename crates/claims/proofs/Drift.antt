@@ -1,49 +1,107 @@
--- Demand 3 for runs of the public calls: the pool's target is the start at 0 with the adjustments of the run made in order, so the model's drift theorem speaks of it.
+-- Demand 3 for runs of the public calls: the pool's target is the start at 0 with the adjustments of the run made in order, so the model's drift theorem speaks of it; and
+-- a fault of a full pool says the victim that the target picks.
 -- Assumes nothing.
-use mathlib.Core.Path.{_≡_, subst}
-use Prim.Native.Nat.{ℕ, _≤_}
+use mathlib.Core.Path.{_≡_, refl, sym, ap, _∙_, subst}
+use Prim.Native.Nat.{ℕ, _+_, _≤_, _<_}
 use native.Mathlib.Omega.{arith}
-use mathlib.Core.List.{List}
+use mathlib.Core.List.{List, [], _∷_}
 use lib.ListN.{length}
 use borrow.Author.Tests.{le-ltb}
 use Rattle.model.specs.Numbers.{Numbers, meant}
-use Rattle.model.specs.Target.{exactZero, exactAll, WithinUnits, Held, FurtherThan, aboveExact}
+use Rattle.model.specs.Words.{faultSays, answerSays}
+use Rattle.model.specs.Target.{Costs, Adjustment, Exact, exactZero, exactAll, WithinUnits, Held, FurtherThan, aboveExact}
 use Rattle.model.specs.State.{State, opened as openedState}
 use Rattle.model.specs.Refusals.{openVerdict}
-use Rattle.model.specs.Request.{victimBy, chosen}
-use Rattle.model.specs.Run as model
+use Rattle.model.specs.Request.{locate, victimBy, chosen, taken, request, requestAt}
+use Rattle.model.specs.Run.{Call, read, write, flush, total, World, verdictOf, costsIn, left, after, afterAll, broughtBy, gathered}
+use Rattle.model.specs.declared.Op.{Op}
+use Rattle.model.specs.declared.Op.the-variants.{Read, Write}
+use Rattle.model.specs.declared.Place.{Place}
+use Rattle.model.specs.declared.Place.the-variants.{Absent}
+use Rattle.model.specs.declared.Choice.{Choice}
 use Rattle.model.specs.declared.Verdict.the-variants.{Fine}
-use Rattle.model.proofs.Drift.{AllDivide, target-within, exact-held, same-victim}
-use Rattle.model.proofs.Adjust.{Adjusted}
-use Rattle.pool.specs.Pool.{stateOf}
-use Rattle.casa.proofs.Sound.{open-sound}
-use Rattle.claims.specs.World.{World, opened, Call, afterAll, adjustments}
-use Rattle.claims.proofs.Calls.{held}
-use Rattle.claims.proofs.Runs.{run-moves, open-limits, open-held}
+use Rattle.model.proofs.Drift.{target-within, exact-held, same-victim}
+use Rattle.model.proofs.Adjust.{Adjusted, stays, request-adjusted, flush-adjusted, adjusted-append}
+use Rattle.model.proofs.Refusals.{call-cases}
+use Rattle.model.proofs.LastWritten.{call-good}
+use Rattle.model.proofs.Framed.{framed-lawful, framed-pooled}
+use Rattle.pool.specs.Pool.{stateOf, Sound}
+use Rattle.pool.specs.declared.Pool.{Pool}
+use Rattle.casa.specs.Calls.{pools}
+use Rattle.casa.proofs.Lawful.{pools-framed, pools-lawful, open-sound}
+use Rattle.claims.specs.World.{opened, adjusting, Asks, reads, writes, lastSaid}
+use Rattle.claims.proofs.Runs.{open-state, call-follows}
+
+-- ---- one call, and a run of them
+
+module _ (x : World Pool) (s : Sound (x .state)) where
+  abbrev before : State
+  before = stateOf (x .state)
+
+  costs-some : 0 < costsIn pools x .r + costsIn pools x .w
+  costs-some = omega (arith, s .good .limits .r-low)
+
+  -- a refused call makes no adjustment; a served one leaves state t, and makes those that lead to it
+  moved-by : (c : Call) (t : State) → (verdictOf pools x c ≡ Fine → stateOf (left pools x c .state) ≡ t) → Adjusted before t (adjusting x c)
+      → Adjusted before (stateOf (after pools x c .state)) (broughtBy pools (verdictOf pools x c) (adjusting x c))
+  moved-by c t is a =
+      call-cases pools x c (λ l. (verdictOf pools x c ≡ Fine → stateOf (l .state) ≡ t) → Adjusted before (stateOf (l .state)) (broughtBy pools (verdictOf pools x c) (adjusting x c)))
+      (λ y e at. rw e (stays before before refl refl)) (λ e at. rw e (subst (λ (z : State). Adjusted before z (adjusting x c)) (sym (at e)) a)) is
+
+  call-moves : (c : Call) → Adjusted before (stateOf (after pools x c .state)) (broughtBy pools (verdictOf pools x c) (adjusting x c))
+  call-moves (read q out) =
+      moved-by (read q out) _ (λ e. call-follows x s (read q out) e .0 .0) (request-adjusted Read (costsIn pools x) costs-some before q)
+  call-moves (write q start bytes) =
+      moved-by (write q start bytes) _ (λ e. call-follows x s (write q start bytes) e .0 .0) (request-adjusted Write (costsIn pools x) costs-some before q)
+  call-moves flush = moved-by flush _ (λ e. call-follows x s flush e .0) (flush-adjusted before)
+  call-moves total = moved-by total _ (λ e. call-follows x s total e .0) (stays before before refl refl)
+
+pub run-moves : (cs : List Call) (x : World Pool) → Sound (x .state) → Adjusted (stateOf (x .state)) (stateOf (afterAll pools x cs .state)) (gathered pools adjusting x cs)
+unfolding pools-lawful pools-framed framed-lawful framed-pooled
+run-moves [] x s = stays _ _ refl refl
+run-moves (c ∷ cs) x s =
+    adjusted-append (stateOf (x .state)) (stateOf (after pools x c .state)) (stateOf (afterAll pools (after pools x c) cs .state)) _ (gathered pools adjusting (after pools x c) cs)
+    (call-moves x s c) (run-moves cs (after pools x c) (call-good pools pools-lawful x s c))
+
+-- ---- from an accepted open
 
 module _ (n : Numbers) (accepted : openVerdict n ≡ Fine) (frames store : List ℕ) (cs : List Call) where
+  abbrev used : World Pool
+  used = afterAll pools (opened n frames store) cs
+
+  abbrev made : List Adjustment
+  made = gathered pools adjusting (opened n frames store) cs
+
   -- from the opened state to that of the used pool
-  moved : Adjusted (openedState (meant n)) (held (afterAll (opened n frames store) cs) .state) (adjustments (opened n frames store) cs)
-  moved =
-      subst (λ (w : model.World). Adjusted (w .state) (held (afterAll (opened n frames store) cs) .state) (adjustments (opened n frames store) cs)) (open-held n accepted frames store)
+  run-moved : Adjusted (openedState (meant n)) (stateOf (used .state)) made
+  run-moved =
+      subst (λ (z : State). Adjusted z (stateOf (used .state)) made) (open-state n accepted frames store)
       (run-moves cs (opened n frames store) (open-sound n accepted))
 
-  divides : AllDivide (adjustments (opened n frames store) cs)
-  divides = moved .divide (omega (arith, open-limits n accepted .r-low))
+  pub run-near : WithinUnits (length made) (used .state .target) (exactAll (meant n .b) exactZero made)
+  run-near = rw (run-moved .target) (target-within (meant n .b) made (run-moved .divide))
 
-  pub run-near : WithinUnits (length (adjustments (opened n frames store) cs)) (afterAll (opened n frames store) cs .pool .target)
-      (exactAll (meant n .b) exactZero (adjustments (opened n frames store) cs))
-  run-near = rw (moved .target) (target-within (meant n .b) (adjustments (opened n frames store) cs) divides)
+  pub run-held : Held (meant n .b) (exactAll (meant n .b) exactZero made)
+  run-held = exact-held (meant n .b) made (run-moved .divide)
 
-  pub run-held : Held (meant n .b) (exactAll (meant n .b) exactZero (adjustments (opened n frames store) cs))
-  run-held = exact-held (meant n .b) (adjustments (opened n frames store) cs) divides
+-- ---- the victim that a fault says
 
-  pub run-victim : let s = stateOf (afterAll (opened n frames store) cs .pool) in let x = exactAll (meant n .b) exactZero (adjustments (opened n frames store) cs) in
-      length (s .lists .E) ≡ 0 → FurtherThan (length (adjustments (opened n frames store) cs)) (length (s .lists .C)) x
-      → chosen s ≡ victimBy (aboveExact (length (s .lists .C)) x) (length (s .lists .C)) (length (s .lists .D))
-  run-victim full far =
-      let s : State = stateOf (afterAll (opened n frames store) cs .pool) in
-      let z : length (s .lists .E) ≤ 0 = omega arith in
-      rw (le-ltb 0 (length (s .lists .E)) z)
-      (same-victim (length (adjustments (opened n frames store) cs)) (s .target) (length (s .lists .C)) (length (s .lists .D))
-      (exactAll (meant n .b) exactZero (adjustments (opened n frames store) cs)) run-near far)
+module _ (x : World Pool) (s : Sound (x .state)) (k : ℕ) (exact : Exact) (near : WithinUnits k (x .state .target) exact)
+    (full : length (stateOf (x .state) .lists .E) ≡ 0) (far : FurtherThan k (length (stateOf (x .state) .lists .C)) exact)
+    (q : ℕ) (absent : locate (stateOf (x .state)) q ≡ Absent) where
+  abbrev held : State
+  held = stateOf (x .state)
+
+  chosen-is : chosen held ≡ victimBy (aboveExact (length (held .lists .C)) exact) (length (held .lists .C)) (length (held .lists .D))
+  chosen-is =
+      let z : length (held .lists .E) ≤ 0 = omega arith in
+      rw (le-ltb 0 (length (held .lists .E)) z)
+      (same-victim k (held .target) (length (held .lists .C)) (length (held .lists .D)) exact near far)
+
+  fault-says : (op : Op) (c : Costs) → answerSays (request op c held q .answer) ≡ lastSaid held (aboveExact (length (held .lists .C)) exact)
+  fault-says Read c = ap (λ (p : Place). answerSays (requestAt Read c held q p .answer)) absent ∙ ap (λ (t : Choice). faultSays (taken held t .victim)) chosen-is
+  fault-says Write c = ap (λ (p : Place). answerSays (requestAt Write c held q p .answer)) absent ∙ ap (λ (t : Choice). faultSays (taken held t .victim)) chosen-is
+
+  pub victim-said : (c : Call) → Asks q c → verdictOf pools x c ≡ Fine → left pools x c .said ≡ lastSaid held (aboveExact (length (held .lists .C)) exact)
+  victim-said c (reads out) e = call-follows x s (read q out) e .0 .1 ∙ fault-says Read (costsIn pools x)
+  victim-said c (writes start bytes) e = call-follows x s (write q start bytes) e .0 .1 ∙ fault-says Write (costsIn pools x)

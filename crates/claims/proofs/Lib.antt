@@ -1,6 +1,7 @@
--- The demands: Claims states them, Settled cites what settles each call; Refused, Calls, Runs and Drift prove them. Assumes nothing.
+-- The demands: Claims states them, Settled cites what settles each call; Refused, Opening, Traces, Runs and Drift prove them. Assumes nothing.
 pub mod Refused
-pub mod Calls
+pub mod Opening
+pub mod Traces
 pub mod Runs
 pub mod Drift
 pub mod Claims

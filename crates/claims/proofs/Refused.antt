@@ -1,52 +1,72 @@
--- A call is refused by the first row of its table whose condition holds, says that row's number, and leaves everything; any other call says no refusal.
--- Assumes nothing.
-use mathlib.Core.Path.{_≡_, refl, ap}
-use mathlib.Core.Bool.{Bool, true, false}
-use Prim.Native.Nat.{ℕ}
+-- Demand 1 for CASA's pools: model's laws on what a call says, with the test of soundness told as soundness. Assumes nothing.
+use mathlib.Core.Path.{_≡_, refl, sym, ap, _∙_}
+use mathlib.Core.Bool.{Bool, true, false, not, false≢true}
 use native.Mathlib.Omega.{arith}
 use mathlib.Core.List.{List, [], _∷_}
-use Rattle.model.specs.Words.{refusalSays}
-use Rattle.model.specs.Refusals.{Row, verdictBy, first, requestVerdict, flushVerdict, totalVerdict}
+use Rattle.model.specs.Words.{numberOf, refusalSays}
+use Rattle.model.specs.Refusals.{Row, GivenBy, here, later}
+use Rattle.model.specs.Run.{Call, read, write, flush, total, outputOf, World, Left, furtherRows, rowsOf, left}
 use Rattle.model.specs.declared.Refusal.{Refusal}
-use Rattle.model.specs.declared.Verdict.{Verdict}
-use Rattle.model.specs.declared.Verdict.the-variants.{Refused}
-use Rattle.casa.specs.Calls.{readIf, readAfter, writeIf, writeAfter, flushIf, flushAfter, totalIf, totalAfter}
-use Rattle.claims.specs.World.{World, Call, read, write, flush, total, after, said, verdictOf, GivenBy, here, later}
+use Rattle.model.specs.declared.Refusal.the-variants.{BrokenPool}
+use Rattle.model.proofs.Exactly as exactly
+use Rattle.model.proofs.Framed.{framed-lawful, framed-pooled}
+use Rattle.pool.specs.Pool.{Sound}
+use Rattle.pool.specs.Test.{soundB}
+use Rattle.pool.specs.declared.Pool.{Pool}
+use Rattle.pool.proofs.Decides.{soundB-exact}
+use Rattle.casa.specs.Calls.{pools}
+use Rattle.casa.proofs.Lawful.{pools-framed, pools-lawful}
 
--- ---- the first row, both ways
+means : (p : Pool) → soundB p ≡ true → Sound p
+means p = soundB-exact p .holds
 
-pub first-given : (xs : List Row) (y : Refusal) → first xs ≡ Refused y → GivenBy y xs
-first-given [] y e = let z : _≡_ {A = ℕ} 0 1 = cc in absurd (omega arith)
-first-given (x ∷ xs) y e = go (x .when) refl e (first-given xs y)
-  where
-    go : (t : Bool) → x .when ≡ t → verdictBy t (x .why) (first xs) ≡ Refused y → (first xs ≡ Refused y → GivenBy y xs) → GivenBy y (x ∷ xs)
-    go true h d ih = let w : x .why ≡ y = cc in here h w
-    go false h d ih = later h (ih d)
+-- no row behind 2 gives 2
+abbrev NoneBroken : List Row → Type 0
+NoneBroken [] = Unit {0}
+NoneBroken (r ∷ rs) = (r .why ≡ BrokenPool → ⊥) × NoneBroken rs
 
-pub given-first : (xs : List Row) (y : Refusal) → GivenBy y xs → first xs ≡ Refused y
-given-first (x ∷ xs) y (here h w) = rw (h, w)
-given-first (x ∷ xs) y (later h g) = rw h (given-first xs y g)
+none-given : (rs : List Row) → NoneBroken rs → GivenBy BrokenPool rs → ⊥
+none-given (r ∷ rs) n (here h w) = n .0 w
+none-given (r ∷ rs) n (later h g) = none-given rs (n .1) g
 
--- ---- what a refused call says and leaves
+apart : {a b : Refusal} → (numberOf a ≡ numberOf b → ⊥) → a ≡ b → ⊥
+apart n e = n (ap numberOf e)
 
-pub refused-says : (x : World) (c : Call) (y : Refusal) → verdictOf x c ≡ Refused y → said x c ≡ refusalSays y
-unfolding readAfter writeAfter flushAfter totalAfter requestVerdict flushVerdict totalVerdict
-refused-says x (read page out) y e = ap (λ (v : Verdict). readIf v (x .pool) page (x .frames) (x .store) out .said) e
-refused-says x (write page start bytes) y e = ap (λ (v : Verdict). writeIf v (x .pool) page start bytes (x .frames) (x .store) .said) e
-refused-says x flush y e = ap (λ (v : Verdict). flushIf v (x .pool) (x .frames) (x .store) .said) e
-refused-says x total y e = ap (λ (v : Verdict). totalIf v (x .pool)) e
+further-none : (x : World Pool) (c : Call) → NoneBroken (furtherRows pools x c)
+further-none x (read q out) = (apart (λ e. omega arith), (apart (λ e. omega arith), (apart (λ e. omega arith), (apart (λ e. omega arith), tt))))
+further-none x (write q start bytes) = (apart (λ e. omega arith), (apart (λ e. omega arith), (apart (λ e. omega arith), (apart (λ e. omega arith), tt))))
+further-none x flush = (apart (λ e. omega arith), (apart (λ e. omega arith), tt))
+further-none x total = tt
 
-pub refused-leaves : (x : World) (c : Call) (y : Refusal) → verdictOf x c ≡ Refused y → after x c ≡ x
-unfolding readAfter writeAfter flushAfter requestVerdict flushVerdict
-refused-leaves x (read page out) y e =
-    ap (λ (v : Verdict). let r = readIf v (x .pool) page (x .frames) (x .store) out in record { pool = r .pool; frames = r .frames; store = r .store }) e
-refused-leaves x (write page start bytes) y e =
-    ap (λ (v : Verdict). let r = writeIf v (x .pool) page start bytes (x .frames) (x .store) in record { pool = r .pool; frames = r .frames; store = r .store }) e
-refused-leaves x flush y e =
-    ap (λ (v : Verdict). let r = flushIf v (x .pool) (x .frames) (x .store) in record { pool = r .pool; frames = x .frames; store = r .store }) e
-refused-leaves x total y e = refl
+module _ (x : World Pool) (c : Call) where
+  -- behind the first row, where the pool is sound
+  behind : Sound (x .state) → (y : Refusal) → GivenBy y (rowsOf pools x c) → GivenBy y (furtherRows pools x c)
+  behind s y (here h w) = absurd (false≢true (sym (ap not (soundB-exact (x .state) .test s)) ∙ h))
+  behind s y (later h g) = g
 
-pub refused-output : (x : World) (page : ℕ) (out : List ℕ) (y : Refusal) → verdictOf x (read page out) ≡ Refused y
-    → readAfter (x .pool) page (x .frames) (x .store) out .out ≡ out
-unfolding readAfter requestVerdict
-refused-output x page out y e = ap (λ (v : Verdict). readIf v (x .pool) page (x .frames) (x .store) out .out) e
+  module _ (s : Sound (x .state)) (y : Refusal) where
+    pub says-given : left pools x c .said ≡ refusalSays y → GivenBy y (furtherRows pools x c)
+    unfolding pools-lawful pools-framed framed-lawful framed-pooled
+    says-given e = behind s y (exactly.says-given pools pools-lawful means x c y e)
+
+    pub given-says : GivenBy y (furtherRows pools x c) → left pools x c .said ≡ refusalSays y
+    unfolding pools-lawful pools-framed framed-lawful framed-pooled
+    given-says g = exactly.given-says pools pools-lawful means x c y (later (ap not (soundB-exact (x .state) .test s)) g)
+
+  pub broken-says : left pools x c .said ≡ refusalSays BrokenPool → Sound (x .state) → ⊥
+  broken-says e s = none-given (furtherRows pools x c) (further-none x c) (says-given s BrokenPool e)
+
+  pub says-broken : (Sound (x .state) → ⊥) → left pools x c .said ≡ refusalSays BrokenPool
+  unfolding pools-lawful pools-framed framed-lawful framed-pooled
+  says-broken h = go (soundB (x .state)) refl
+    where
+      go : (t : Bool) → soundB (x .state) ≡ t → left pools x c .said ≡ refusalSays BrokenPool
+      go true e = absurd (h (means (x .state) e))
+      go false e = exactly.given-says pools pools-lawful means x c BrokenPool (here (ap not e) refl)
+
+  pub says-leaves : (y : Refusal) → left pools x c .said ≡ refusalSays y
+      → (left pools x c .state ≡ x .state) × (left pools x c .memory ≡ x .memory) × (left pools x c .out ≡ outputOf c)
+  unfolding pools-lawful pools-framed framed-lawful framed-pooled
+  says-leaves y e =
+      let l = exactly.says-leaves pools pools-lawful means x c y e in
+      (ap (λ (z : Left Pool). z .state) l, ap (λ (z : Left Pool). z .memory) l, ap (λ (z : Left Pool). z .out) l)

@@ -1,71 +1,113 @@
--- Runs of calls from an accepted open, by induction on the calls: the pool stays sound, every page is as its history says, and the target has moved by the
--- adjustments of the run.
+-- Runs of calls from an accepted open. Where the lent memory is not of the right size, every call leaves the world as it is; so a read that is served shows that it was,
+-- and then every page is as its history says. A served call does what Algorithm 1 does to the state that the pool holds.
 -- Assumes nothing.
 use mathlib.Core.Path.{_≡_, refl, sym, ap, _∙_, subst}
+use mathlib.Core.Bool.{Bool, true, false, false≢true}
 use Prim.Native.Nat.{ℕ, _*_}
 use mathlib.Core.List.{List, [], _∷_}
 use lib.ListN.{length}
 use Rattle.pages.specs.Pages.{pageOf}
-use Rattle.model.specs.Numbers.{Numbers, Limits, inLimits, meant}
-use Rattle.model.specs.Refusals.{openRows, openVerdict, requestVerdict, outputFits}
-use Rattle.model.specs.State.{opened as openedState}
-use Rattle.model.specs.Moves.{History}
-use Rattle.model.specs.Run as model
+use Rattle.pages.specs.Memory.{sizesMatch}
+use Rattle.pages.proofs.Memory.{sizesMatch-sound}
+use Rattle.model.specs.Numbers.{Numbers, meant}
+use Rattle.model.specs.State.{State, opened as openedState, framesOf}
+use Rattle.model.specs.Frames.{holdingIn}
+use Rattle.model.specs.Bytes.{Memory}
+use Rattle.model.specs.Moves.{Keeps}
+use Rattle.model.specs.Request.{flushed}
+use Rattle.model.specs.Refusals.{openVerdict}
+use Rattle.model.specs.Run.{Call, read, write, flush, total, World, rowsOf, verdictOf, costsIn, served, left, after, afterAll, history}
+use Rattle.model.specs.declared.Op.the-variants.{Read, Write}
 use Rattle.model.specs.declared.Verdict.{Verdict}
 use Rattle.model.specs.declared.Verdict.the-variants.{Fine}
+use Rattle.model.proofs.Refusals.{call-cases, first-clear, not-false, read-clear, write-clear}
+use Rattle.model.proofs.Moves.{vacant-keeps}
+use Rattle.model.proofs.Outcomes.{keeps-same}
 use Rattle.model.proofs.Good.{opened-good}
-use Rattle.model.proofs.Limits.{limits-hold}
-use Rattle.model.proofs.Refusals.{not-false, first-clear, request-clear}
-use Rattle.model.proofs.LastWritten.{Right, opened-right, read-hands-out}
-use Rattle.model.proofs.Adjust.{Adjusted, stays, adjusted-append}
+use Rattle.model.proofs.LastWritten.{run-good, Right, run-right, last-written}
+use Rattle.model.proofs.Framed.{framed-lawful, framed-pooled}
+use Rattle.model.proofs.Steps.{states-framed, request-stepped}
 use Rattle.pool.specs.Pool.{poolOf, stateOf, Sound}
-use Rattle.pool.specs.Test.{soundB}
+use Rattle.pool.specs.declared.Pool.{Pool}
 use Rattle.pool.proofs.Form.{state-pool}
-use Rattle.casa.specs.Calls.{openIf, openAfter, readServed, readIf, readAfter}
-use Rattle.claims.specs.World.{World, opened, Call, read, after, verdictOf, afterAll, history, adjustments}
-use Rattle.claims.proofs.Calls.{held, call-sound, call-keeps, call-moves}
+use Rattle.casa.specs.Calls.{pools, openIf, openAfter}
+use Rattle.casa.proofs.Lawful.{pools-framed, pools-lawful, open-limits, open-sound}
+use Rattle.claims.specs.World.{opened, Followed}
 
-pub run-sound : (cs : List Call) (x : World) → Sound (x .pool) → Sound (afterAll x cs .pool)
-run-sound [] x s = s
-run-sound (c ∷ cs) x s = run-sound cs (after x c) (call-sound x s c)
+-- ---- memory that is not of the right size
 
-pub run-keeps : (cs : List Call) (x : World) → Sound (x .pool) → (h : History) → Right (held x) h → Right (held (afterAll x cs)) (history x cs h)
-run-keeps [] x s h r = r
-run-keeps (c ∷ cs) x s h r = run-keeps cs (after x c) (call-sound x s c) _ (call-keeps x s c h r)
+abbrev sized : World Pool → Bool
+sized x = let n = stateOf (x .state) .numbers in sizesMatch (n .P) (n .b) (n .N) (length (x .memory .frames)) (length (x .memory .store))
 
-pub run-moves : (cs : List Call) (x : World) → Sound (x .pool) → Adjusted (held x .state) (held (afterAll x cs) .state) (adjustments x cs)
-run-moves [] x s = stays _ _ refl refl
-run-moves (c ∷ cs) x s =
-    adjusted-append (held x .state) (held (after x c) .state) (held (afterAll (after x c) cs) .state) _ (adjustments (after x c) cs)
-    (call-moves x s c) (run-moves cs (after x c) (call-sound x s c))
+-- no call is served but a total, which leaves the world too
+sized-stays : (x : World Pool) → sized x ≡ false → (c : Call) → after pools x c ≡ x
+sized-stays x h c = call-cases pools x c (λ l. _≡_ {A = World Pool} (record { state = l .state; memory = l .memory }) x) (λ y e. refl) (stays-served c)
+  where
+    clash : {A : Type 0} → sized x ≡ true → A
+    clash t = absurd (false≢true (sym h ∙ t))
 
--- a read that is served hands out the page as its history says
-pub read-told : (x : World) (h : History) → Right (held x) h → (page : ℕ) (out : List ℕ) → verdictOf x (read page out) ≡ Fine
-    → readAfter (x .pool) page (x .frames) (x .store) out .out ≡ h page
-unfolding readAfter readServed requestVerdict
-read-told x h r page out e =
-    let a = request-clear (soundB (x .pool)) (held x .state) (length (x .frames)) (length (x .store)) page (outputFits (x .pool .«page_bytes») (length out)) e in
-    ap (λ (v : Verdict). readIf v (x .pool) page (x .frames) (x .store) out .out) e ∙ read-hands-out (held x) h r page (a .inside) (a .left)
+    stays-served : (d : Call) → verdictOf pools x d ≡ Fine → _≡_ {A = World Pool} (record { state = served pools x d .state; memory = served pools x d .memory }) x
+    stays-served (read q out) e = clash (not-false _ (first-clear (rowsOf pools x (read q out)) e .1 .0))
+    stays-served (write q start bytes) e = clash (not-false _ (first-clear (rowsOf pools x (write q start bytes)) e .1 .0))
+    stays-served flush e = clash (not-false _ (first-clear (rowsOf pools x flush) e .1 .0))
+    stays-served total e = refl
 
--- ---- an accepted open
+run-stays : (cs : List Call) (x : World Pool) → sized x ≡ false → afterAll pools x cs ≡ x
+run-stays [] x h = refl
+run-stays (c ∷ cs) x h = ap (λ (y : World Pool). afterAll pools y cs) (sized-stays x h c) ∙ run-stays cs x h
 
-module _ (n : Numbers) (accepted : openVerdict n ≡ Fine) where
-  pub open-limits : Limits (meant n)
-  unfolding openVerdict
-  open-limits = limits-hold (meant n) (not-false (inLimits (meant n)) (first-clear (openRows n) accepted .0))
+run-sized : (cs : List Call) (x : World Pool) (q : ℕ) (out : List ℕ) → verdictOf pools (afterAll pools x cs) (read q out) ≡ Fine → sized x ≡ true
+run-sized cs x q out e = go (sized x) refl
+  where
+    go : (t : Bool) → sized x ≡ t → sized x ≡ true
+    go true h = h
+    go false h = not-false _ (first-clear (rowsOf pools x (read q out)) (ap (λ (y : World Pool). verdictOf pools y (read q out)) (sym (run-stays cs x h)) ∙ e) .1 .0)
 
-  open-pool : openAfter n .pool ≡ poolOf (openedState (meant n))
+-- ---- a pool that is sound stays so
+
+pub run-sound : (cs : List Call) (x : World Pool) → Sound (x .state) → Sound (afterAll pools x cs .state)
+unfolding pools-lawful pools-framed framed-lawful framed-pooled
+run-sound = run-good pools pools-lawful
+
+-- ---- from an accepted open
+
+module _ (n : Numbers) (accepted : openVerdict n ≡ Fine) (frames store : List ℕ) where
+  pub open-state : stateOf (openAfter n .pool) ≡ openedState (meant n)
   unfolding openAfter
-  open-pool = ap (λ (v : Verdict). openIf v (meant n) .pool) accepted
+  open-state =
+      ap (λ (v : Verdict). stateOf (openIf v (meant n) .pool)) accepted ∙ state-pool (openedState (meant n)) (opened-good (meant n) (open-limits n accepted) .placed .paged)
 
-  pub open-held : (frames store : List ℕ) → held (opened n frames store) ≡ model.openedWorld (meant n) frames store
-  open-held frames store =
-      λ i. record {
-        state = (ap stateOf open-pool ∙ state-pool (openedState (meant n)) (opened-good (meant n) open-limits .paged)) i;
-        memory = record { frames = frames; store = store };
+  open-right : sized (opened n frames store) ≡ true → Right pools pools-lawful (opened n frames store) (λ p. pageOf (meant n .P) p store)
+  unfolding pools-lawful pools-framed framed-lawful framed-pooled states-framed
+  open-right h =
+      let z = sizesMatch-sound (meant n .P) (meant n .b) (meant n .N) (length frames) (length store)
+      (subst (λ (s : State). sizesMatch (s .numbers .P) (s .numbers .b) (s .numbers .N) (length frames) (length store) ≡ true) open-state h) in
+      let m : Memory = record { frames = frames; store = store } in
+      record {
+        good = open-sound n accepted;
+        keeps = subst (λ (s : State). Keeps (s .numbers) (record { holds = holdingIn (framesOf s); memory = m }) (λ p. pageOf (meant n .P) p store)) (sym open-state)
+            (keeps-same (meant n) _ _ m _ (λ f. refl) (vacant-keeps (meant n) m (z .0) (z .1)));
       }
 
-  pub open-right : (frames store : List ℕ) → length frames ≡ meant n .b * meant n .P → length store ≡ meant n .N * meant n .P
-      → Right (held (opened n frames store)) (λ p. pageOf (meant n .P) p store)
-  open-right frames store hf hs =
-      subst (λ (w : model.World). Right w (λ p. pageOf (meant n .P) p store)) (sym (open-held frames store)) (opened-right (meant n) open-limits frames store hf hs)
+  -- a read that is served hands out the page as its history says
+  pub run-read : (cs : List Call) (q : ℕ) (out : List ℕ) → verdictOf pools (afterAll pools (opened n frames store) cs) (read q out) ≡ Fine
+      → left pools (afterAll pools (opened n frames store) cs) (read q out) .out ≡ history pools (opened n frames store) cs (λ p. pageOf (meant n .P) p store) q
+  run-read cs q out e =
+      last-written pools pools-lawful (afterAll pools (opened n frames store) cs) _
+      (run-right pools pools-lawful cs (opened n frames store) _ (open-right (run-sized cs (opened n frames store) q out e))) q out e
+
+-- ---- a served call of a sound pool does what Algorithm 1 does
+
+module _ (x : World Pool) (s : Sound (x .state)) where
+  pub call-follows : (c : Call) → verdictOf pools x c ≡ Fine → Followed (costsIn pools x) (stateOf (x .state)) (x .memory) c (left pools x c)
+  unfolding left
+  call-follows (read q out) e =
+      let a = read-clear pools x q out e in
+      let t = request-stepped (stateOf (x .state)) (record { good = s .good; blank = s .blank }) q (record { inside = a .inside; more = a .more }) Read (costsIn pools x) in
+      rw e ((state-pool _ (t .good .good .placed .paged), refl), refl, refl)
+  call-follows (write q start bytes) e =
+      let a = write-clear pools x q start bytes e in
+      let t = request-stepped (stateOf (x .state)) (record { good = s .good; blank = s .blank }) q (record { inside = a .inside; more = a .more }) Write (costsIn pools x) in
+      rw e ((state-pool _ (t .good .good .placed .paged), refl), refl)
+  call-follows flush e = rw e (state-pool (flushed (stateOf (x .state))) (s .good .placed .paged), refl, refl)
+  call-follows total e = rw e (refl, refl, refl)

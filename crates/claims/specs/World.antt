@@ -1,116 +1,101 @@
--- A world: a pool with the frame memory and the store that are lent to its calls, and nobody else touches. The calls on it are the public calls, by the
--- definitions that their promises state; a run is any list of them, refused ones among them.
+-- What the demands speak of, beside the calls: what is said, the world after an accepted open, what Algorithm 1 makes of a call, the adjustments of a run,
+-- the pages at the ends of the lists, and the rows of a trace.
 -- Assumes nothing.
 use mathlib.Core.Path.{_≡_}
-use mathlib.Core.Bool.{true, false}
-use Prim.Native.Nat.{ℕ}
+use Prim.Native.Nat.{ℕ, _-_}
+use mathlib.Core.Bool.{Bool, not}
 use mathlib.Core.List.{List, [], _∷_, _++_}
+use lib.Dec.{eqb, ltb}
 use lib.ListN.{length}
+use Rattle.pages.specs.Pages.{pageOf}
 use Rattle.model.specs.Numbers.{Numbers}
-use Rattle.model.specs.Words.{Said}
-use Rattle.model.specs.Target.{Adjustment}
-use Rattle.model.specs.Refusals.{Row, first, requestRows, flushRows, totalRows, outputFits, stretchFits}
-use Rattle.model.specs.Moves.{History, laid}
-use Rattle.model.specs.Run.{adjustmentsAt}
-use Rattle.model.specs.Request.{locate}
+use Rattle.model.specs.Words.{Said, flushed as saidFlushed, total as saidTotal, numberOf, namedBy, refusalSays, answerSays, faultSays}
+use Rattle.model.specs.Target.{Costs, Adjustment}
+use Rattle.model.specs.Counts.{totalCost}
+use Rattle.model.specs.State.{State}
+use Rattle.model.specs.Request.{victimBy, taken, request, flushed, adjustmentsOf}
+use Rattle.model.specs.Refusals.{Row}
+use Rattle.model.specs.Bytes.{Memory, brought, overlaid, flushedBytes}
+use Rattle.model.specs.Run.{Call, read, write, flush, total, World, Left, costsIn, left}
+use Rattle.model.specs.declared.Op.{Op}
 use Rattle.model.specs.declared.Op.the-variants.{Read, Write}
 use Rattle.model.specs.declared.Refusal.{Refusal}
-use Rattle.model.specs.declared.Verdict.{Verdict}
-use Rattle.model.specs.declared.Verdict.the-variants.{Fine, Refused}
-use Rattle.pool.specs.Pool.{stateOf}
-use Rattle.pool.specs.Test.{soundB}
+use Rattle.model.specs.declared.Refusal.the-variants.{NotATrace, BadRecord}
+use Rattle.pool.specs.Pool.{stateOf, Sound}
 use Rattle.pool.specs.declared.Pool.{Pool}
-use Rattle.casa.specs.Calls.{openAfter, readAfter, writeAfter, flushAfter, totalAfter}
+use Rattle.casa.specs.Calls.{pools, openAfter, worldOf}
+use Rattle.trace.specs.Format.{trailerLength, trailerAt, trailerRows, badIn}
+use Rattle.trace.specs.Words.{checkedSays, refused}
+use Rattle.trace.specs.declared.Trailer.{Trailer}
+use Rattle.trace.specs.declared.Checked.{Checked}
 
-pub record World : Type 0 where
-  pub pool : Pool
-  pub frames : List ℕ
-  pub store : List ℕ
+-- the one holds exactly when the other does
+abbrev pub Exactly : Type 0 → Type 0 → Type 0
+Exactly A B = (A → B) × (B → A)
+
+-- "Any other pool is broken."
+abbrev pub Broken : Pool → Type 0
+Broken p = Sound p → ⊥
+
+-- a call says refusal y; a trailer, or a trace, is said to be refused y
+abbrev pub Says : World Pool → Call → Refusal → Type 0
+Says x c y = left pools x c .said ≡ refusalSays y
+
+abbrev pub TraceSays : Checked → Refusal → Type 0
+TraceSays a y = checkedSays a ≡ refused (numberOf y) (namedBy y)
 
 -- the world after `casa::open`, with the bytes that the caller will lend
-abbrev pub opened : Numbers → List ℕ → List ℕ → World
-opened n frames store = record { pool = openAfter n .pool; frames = frames; store = store }
+abbrev pub opened : Numbers → List ℕ → List ℕ → World Pool
+opened n frames store = worldOf (openAfter n .pool) frames store
 
-pub data Call : Type 0 where
-  -- page, output
-  read : ℕ → List ℕ → Call
-  -- page, start, bytes
-  write : ℕ → ℕ → List ℕ → Call
-  flush : Call
-  total : Call
+-- ---- a call that is served, of a pool that holds state s, over bytes m, leaves l as Algorithm 1 does: the pool's state, what is said, and, by the frame, the bytes
 
--- ---- one call
+abbrev pub Requested : Op → Costs → State → ℕ → Left Pool → Type 0
+Requested op k s q l = (stateOf (l .state) ≡ request op k s q .state) × (l .said ≡ answerSays (request op k s q .answer))
 
-abbrev pub after : World → Call → World
-after x (read page out) =
-    record {
-      pool = readAfter (x .pool) page (x .frames) (x .store) out .pool;
-      frames = readAfter (x .pool) page (x .frames) (x .store) out .frames;
-      store = readAfter (x .pool) page (x .frames) (x .store) out .store;
-    }
-after x (write page start bytes) =
-    record {
-      pool = writeAfter (x .pool) page start bytes (x .frames) (x .store) .pool;
-      frames = writeAfter (x .pool) page start bytes (x .frames) (x .store) .frames;
-      store = writeAfter (x .pool) page start bytes (x .frames) (x .store) .store;
-    }
-after x flush =
-    record { pool = flushAfter (x .pool) (x .frames) (x .store) .pool; frames = x .frames; store = flushAfter (x .pool) (x .frames) (x .store) .store }
-after x total = x
+abbrev pub Followed : Costs → State → Memory → Call → Left Pool → Type 0
+Followed k s m (read q out) l =
+    Requested Read k s q l
+    × (l .memory ≡ brought (s .numbers .P) (request Read k s q .frame) q (request Read k s q .answer) m)
+    × (l .out ≡ pageOf (s .numbers .P) (request Read k s q .frame) (l .memory .frames))
+Followed k s m (write q start bytes) l =
+    Requested Write k s q l
+    × (l .memory
+    ≡ overlaid (s .numbers .P) (request Write k s q .frame) start bytes (brought (s .numbers .P) (request Write k s q .frame) q (request Write k s q .answer) m))
+Followed k s m flush l =
+    (stateOf (l .state) ≡ flushed s)
+    × (l .said ≡ saidFlushed (length (s .lists .D)))
+    × (l .memory ≡ flushedBytes (s .numbers .P) (s .page) (s .lists .D) m)
+Followed k s m total l = (stateOf (l .state) ≡ s) × (l .said ≡ saidTotal (totalCost (s .numbers) (s .counts))) × (l .memory ≡ m)
 
--- what it says
-abbrev pub said : World → Call → Said
-said x (read page out) = readAfter (x .pool) page (x .frames) (x .store) out .said
-said x (write page start bytes) = writeAfter (x .pool) page start bytes (x .frames) (x .store) .said
-said x flush = flushAfter (x .pool) (x .frames) (x .store) .said
-said x total = totalAfter (x .pool)
+-- ---- the adjustments of the target that a call makes, with the list sizes that the pool has then
 
--- the scope's table of its refusals
-abbrev pub rowsOf : World → Call → List Row
-rowsOf x (read page out) =
-    requestRows (soundB (x .pool)) (stateOf (x .pool)) (length (x .frames)) (length (x .store)) page (outputFits (x .pool .«page_bytes») (length out))
-rowsOf x (write page start bytes) =
-    requestRows (soundB (x .pool)) (stateOf (x .pool)) (length (x .frames)) (length (x .store)) page
-    (stretchFits (x .pool .«page_bytes») start (length bytes))
-rowsOf x flush = flushRows (soundB (x .pool)) (stateOf (x .pool)) (length (x .frames)) (length (x .store))
-rowsOf x total = totalRows (soundB (x .pool))
+abbrev pub adjusting : World Pool → Call → List Adjustment
+adjusting x (read q out) = adjustmentsOf Read (costsIn pools x) (stateOf (x .state)) q
+adjusting x (write q start bytes) = adjustmentsOf Write (costsIn pools x) (stateOf (x .state)) q
+adjusting x flush = []
+adjusting x total = []
 
-abbrev pub verdictOf : World → Call → Verdict
-verdictOf x c = first (rowsOf x c)
+-- ---- a read or a write of page q
 
--- ---- runs
+pub data Asks (q : ℕ) : Call → Type 0 where
+  reads : (out : List ℕ) → Asks q (read q out)
+  writes : (start : ℕ) (bytes : List ℕ) → Asks q (write q start bytes)
 
-abbrev pub afterAll : World → List Call → World
-afterAll x [] = x
-afterAll x (c ∷ cs) = afterAll (after x c) cs
+-- what a fault says that takes the page at the end of the list picked: C if it is above, else D, and C where D is empty
+abbrev pub lastSaid : State → Bool → Said
+lastSaid s above = faultSays (taken s (victimBy above (length (s .lists .C)) (length (s .lists .D))) .victim)
 
--- what each page is after a call: a served write is laid over its page, and nothing else counts
-abbrev pub toldBy : Verdict → Call → History → History
-toldBy (Refused y) c h = h
-toldBy Fine (read page out) h = h
-toldBy Fine (write page start bytes) h = laid page start bytes h
-toldBy Fine flush h = h
-toldBy Fine total h = h
+-- ---- a trace: refusals 7 and 1 of its trailer, then 8 for its first bad record
 
-abbrev pub history : World → List Call → History → History
-history x [] h = h
-history x (c ∷ cs) h = history (after x c) cs (toldBy (verdictOf x c) c h)
+abbrev pub trailerIn : List ℕ → Trailer
+trailerIn s = trailerAt s (length s - trailerLength)
 
--- the adjustments of the target that a call makes, with the list sizes that the pool has then
-abbrev pub adjustedBy : Verdict → World → Call → List Adjustment
-adjustedBy (Refused y) x c = []
-adjustedBy Fine x (read page out) = adjustmentsAt Read (stateOf (x .pool)) (locate (stateOf (x .pool)) page)
-adjustedBy Fine x (write page start bytes) = adjustmentsAt Write (stateOf (x .pool)) (locate (stateOf (x .pool)) page)
-adjustedBy Fine x flush = []
-adjustedBy Fine x total = []
+abbrev pub headerRows : List ℕ → List Row
+headerRows s = record { when = ltb (length s) trailerLength; why = NotATrace } ∷ trailerRows (length s) (trailerIn s)
 
-abbrev pub adjustments : World → List Call → List Adjustment
-adjustments x [] = []
-adjustments x (c ∷ cs) = adjustedBy (verdictOf x c) x c ++ adjustments (after x c) cs
+abbrev pub badRow : List ℕ → Row
+badRow s = record { when = not (eqb (badIn s (trailerIn s)) 0); why = BadRecord (badIn s (trailerIn s)) }
 
--- ---- refusals
-
--- y is given by the first row whose condition holds: its own does, and none before it
-pub data GivenBy (y : Refusal) : List Row → Type 0 where
-  here : {x : Row} {xs : List Row} → x .when ≡ true → x .why ≡ y → GivenBy y (x ∷ xs)
-  later : {x : Row} {xs : List Row} → x .when ≡ false → GivenBy y xs → GivenBy y (x ∷ xs)
+abbrev pub checkRows : List ℕ → List Row
+checkRows s = headerRows s ++ (badRow s ∷ [])

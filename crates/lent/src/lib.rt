@@ -1,7 +1,9 @@
 // The same calls on a pool that is lent, and brought up to date where it stands: for a loop that holds one pool. Each is thin over the call by value, and
 // answers alike.
 ghost use mathlib.Core.Path.{_≡_};
-ghost use Rattle.casa.specs.Calls.{readLeft, readAfter, writeLeft, writeAfter, flushLeft, flushAfter};
+ghost use mathlib.Core.List.{[]};
+ghost use Rattle.model.specs.Run as run;
+ghost use Rattle.casa.specs.Calls.{after, servedLeft, flushedLeft};
 use casa::Served;
 use model::Answer;
 use model::Flushing;
@@ -15,7 +17,7 @@ pub fn read_page_in(
     store: &mut [u8],
     out: &mut [u8],
 ) -> Answer
-    ensures { λ r. ⌜ readLeft (record { pool = now (pool .exit); answer = r }) (now (frames .exit)) (now (store .exit)) (now (out .exit)) ≡ readAfter (now (pool .entry)) page (now (frames .entry)) (now (store .entry)) (now (out .entry)) ⌝ }
+    ensures { λ r. ⌜ servedLeft (record { pool = now (pool .exit); answer = r }) (now (frames .exit)) (now (store .exit)) (now (out .exit)) ≡ after (now (pool .entry)) (now (frames .entry)) (now (store .entry)) (run.read page (now (out .entry))) ⌝ }
 {
     let done = casa::read_page(*pool, page, frames, store, out);
     *pool = done.pool;
@@ -31,7 +33,7 @@ pub fn write_page_in(
     frames: &mut [u8],
     store: &mut [u8],
 ) -> Answer
-    ensures { λ r. ⌜ writeLeft (record { pool = now (pool .exit); answer = r }) (now (frames .exit)) (now (store .exit)) ≡ writeAfter (now (pool .entry)) page start (now (bytes .entry)) (now (frames .entry)) (now (store .entry)) ⌝ }
+    ensures { λ r. ⌜ servedLeft (record { pool = now (pool .exit); answer = r }) (now (frames .exit)) (now (store .exit)) [] ≡ after (now (pool .entry)) (now (frames .entry)) (now (store .entry)) (run.write page start (now (bytes .entry))) ⌝ }
 {
     let done = casa::write_page(*pool, page, start, bytes, frames, store);
     *pool = done.pool;
@@ -40,7 +42,7 @@ pub fn write_page_in(
 
 // Writes every changed page to the store. Refused: 2, 3, 6.
 pub fn flush_in(pool: &mut Pool, frames: &[u8], store: &mut [u8]) -> Flushing
-    ensures { λ r. ⌜ flushLeft (record { pool = now (pool .exit); answer = r }) (now (store .exit)) ≡ flushAfter (now (pool .entry)) (now (frames .entry)) (now (store .entry)) ⌝ }
+    ensures { λ r. ⌜ flushedLeft (record { pool = now (pool .exit); answer = r }) (now (frames .entry)) (now (store .exit)) ≡ after (now (pool .entry)) (now (frames .entry)) (now (store .entry)) run.flush ⌝ }
 {
     let done = casa::flush(*pool, frames, store);
     *pool = done.pool;
@@ -55,7 +57,7 @@ pub fn read_page_held(
     store: &mut [u8],
     out: &mut [u8],
 ) -> Served
-    ensures { λ r. ⌜ readLeft r (now (frames .exit)) (now (store .exit)) (now (out .exit)) ≡ readAfter pool page (now (frames .entry)) (now (store .entry)) (now (out .entry)) ⌝ }
+    ensures { λ r. ⌜ servedLeft r (now (frames .exit)) (now (store .exit)) (now (out .exit)) ≡ after pool (now (frames .entry)) (now (store .entry)) (run.read page (now (out .entry))) ⌝ }
 {
     let mut own = pool;
     let answer = read_page_in(&mut own, page, frames, store, out);

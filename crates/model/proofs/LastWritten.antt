@@ -1,116 +1,151 @@
--- A served write is never lost: after any calls from opening, refused ones among them, a read that is served hands out the page as the store first had it with
--- all served writes laid over it in order. Each call keeps the state good and every page as its history says (Outcomes, by way of View); the rest is
--- induction on the calls.
+-- A served write is never lost, whatever the policy. What a policy owes: a request's answer is right about what frames hold, and what they hold afterwards is
+-- what the answer's moves make of it. Then each call keeps every page as its history says (Outcomes), and the rest is induction on the calls.
+--     Lawful                       what a policy owes
+--     call-good, run-good          the state stays good
+--     call-right, run-right        and the bytes keep the history
+--     last-written                 a read that is served hands out the page as the history has it
 -- Assumes nothing.
 use mathlib.Core.Path.{_≡_, refl, sym, ap, _∙_, subst}
-use Prim.Native.Nat.{ℕ, _+_, _*_, _≤_, _<_}
+use Prim.Native.Nat.{ℕ, _+_, _≤_, _<_}
 use mathlib.Core.List.{List, [], _∷_}
-use lib.ListN.{length}
-use Rattle.pages.specs.Pages.{pageOf}
-use Rattle.model.specs.Numbers.{Numbers, Limits, mostServed}
-use Rattle.model.specs.State.{costsOf}
-use Rattle.model.specs.Good.{Good}
-use Rattle.model.specs.Bytes.{Memory, overlaid}
-use Rattle.model.specs.Moves.{History, laid, Keeps}
-use Rattle.model.specs.Run.{World, openedWorld, outcomeOf, broughtIn, readWorld, handedOut, writeWorld, flushWorld, Call, read, write, flush, verdictOf, afterBy, after, afterAll, toldBy, history}
+use lib.ListN.{length, getD}
+use Rattle.order.specs.Count.{count}
+use Rattle.model.specs.Numbers.{Numbers, mostServed}
+use Rattle.model.specs.Target.{Costs}
+use Rattle.model.specs.Bytes.{Memory}
+use Rattle.model.specs.Moves.{Holding, Has, Buffer, History, laid, Keeps}
+use Rattle.model.specs.Policy.{Outcome, Policy}
+use Rattle.model.specs.Run.{Call, read, write, flush, total, World, verdictOf, costsIn, outcomeOf, broughtIn, handedOut, writtenIn, served, left, leftBy, after, afterAll, toldBy, history}
 use Rattle.model.specs.declared.Op.{Op}
 use Rattle.model.specs.declared.Op.the-variants.{Read, Write}
 use Rattle.model.specs.declared.Verdict.{Verdict}
-use Rattle.model.specs.declared.Verdict.the-variants.{Fine, Refused}
-use Rattle.model.proofs.Good.{opened-good}
-use Rattle.model.proofs.Keeps.{Kept, request-kept, flush-good}
-use Rattle.model.proofs.Moves.{vacant-keeps}
-use Rattle.model.proofs.Outcomes.{keeps-same, holdsAfter, read-keeps, read-has, write-keeps, flush-keeps}
-use Rattle.model.proofs.Refusals.{request-clear, flush-clear, stretch-fits}
-use Rattle.model.proofs.View.{bufferOf, holdingOf, Follows, request-follows, flush-follows, D-right, opened-vacant}
+use Rattle.model.specs.declared.Verdict.the-variants.{Fine}
+use Rattle.model.proofs.Outcomes.{VictimBelow, AnswerRight, holdsAfter, cleanedBy, keeps-same, read-keeps, read-has, write-keeps, flush-keeps}
+use Rattle.model.proofs.Refusals.{call-cases, read-clear, write-clear, flush-more, stretch-fits}
 
--- a good state over bytes that keep a history
-pub record Right (x : World) (h : History) : Type 0 where
-  pub good : Good (x .state)
-  pub keeps : Keeps (x .state .numbers) (bufferOf (x .state) (x .memory)) h
+-- ---- what a policy owes
 
-module _ (x : World) (h : History) (r : Right x h) where
-  -- ---- a read or a write that may be served
+-- a request may be served, as far as state and page go
+pub record May (π : Policy) (s : π .State) (q : ℕ) : Type 0 where
+  pub inside : q < π .numbers s .N
+  pub more : π .counts s .served < mostServed
 
-  module _ (op : Op) (q : ℕ) (inside : q < x .state .numbers .N) (left : x .state .counts .served < mostServed) where
-    kept : Kept (x .state) (outcomeOf op x q)
-    kept = request-kept (x .state) (r .good) left op (costsOf (x .state)) q inside
+-- a request for page q of state s has outcome o
+pub record Kept (π : Policy) (Good : π .State → Type 0) (holds : π .State → ℕ → Holding) (op : Op) (s : π .State) (q : ℕ) (o : Outcome (π .State)) : Type 0 where
+  pub same : π .numbers (o .state) ≡ π .numbers s
+  pub good : Good (o .state)
+  pub frame : o .frame < π .numbers s .b
+  pub victim : VictimBelow (π .numbers s .N) (o .answer)
+  pub right : AnswerRight (holds s) q (o .frame) (o .answer)
+  pub holding : (f : ℕ) → holds (o .state) f ≡ holdsAfter op q (o .frame) (o .answer) (holds s) f
 
-    follows : Follows op (x .state) q (outcomeOf op x q)
-    follows = request-follows (x .state) (r .good) q op (costsOf (x .state))
+-- a flush of state s
+pub record FlushKept (π : Policy) (Good : π .State → Type 0) (holds : π .State → ℕ → Holding) (s : π .State) : Type 0 where
+  pub same : π .numbers (π .flushed s) ≡ π .numbers s
+  pub good : Good (π .flushed s)
+  pub right : (f : ℕ) → 1 ≤ count f (π .dirty s) → (getD (π .page s) f 0 < π .numbers s .N) × (f < π .numbers s .b) × Has (getD (π .page s) f 0) (holds s f)
+  pub holding : (f : ℕ) → cleanedBy (π .page s) (π .dirty s) (holds s) f ≡ holds (π .flushed s) f
 
-    -- the lists afterwards hold what the moves say, over the numbers that the state has kept
-    afterwards : (m : Memory) (h′ : History)
-        → Keeps (x .state .numbers) (record { holds = holdsAfter op q (outcomeOf op x q .frame) (outcomeOf op x q .answer) (holdingOf (x .state)); memory = m }) h′
-        → Right (record { state = outcomeOf op x q .state; memory = m }) h′
-    afterwards m h′ k =
+pub record Lawful (π : Policy) : Type 1 where
+  pub Good : π .State → Type 0
+  pub holds : π .State → ℕ → Holding
+  pub request : (op : Op) (k : Costs) (s : π .State) (q : ℕ) → Good s → May π s q → Kept π Good holds op s q (π .request op k s q)
+  pub flush : (s : π .State) → Good s → π .counts s .served < mostServed → FlushKept π Good holds s
+
+module _ (π : Policy) (ok : Lawful π) where
+  pub call-good : (x : World (π .State)) → ok .Good (x .state) → (c : Call) → ok .Good (left π x c .state)
+  call-good x g c = call-cases π x c (λ l. ok .Good (l .state)) (λ y e. g) (good-served c)
+    where
+      good-served : (d : Call) → verdictOf π x d ≡ Fine → ok .Good (served π x d .state)
+      good-served (read q out) e = let a = read-clear π x q out e in ok .request Read (costsIn π x) (x .state) q g (record { inside = a .inside; more = a .more }) .good
+      good-served (write q start bytes) e =
+          let a = write-clear π x q start bytes e in ok .request Write (costsIn π x) (x .state) q g (record { inside = a .inside; more = a .more }) .good
+      good-served flush e = ok .flush (x .state) g (flush-more π x e) .good
+      good-served total e = g
+
+  pub run-good : (cs : List Call) (x : World (π .State)) → ok .Good (x .state) → ok .Good (afterAll π x cs .state)
+  run-good [] x g = g
+  run-good (c ∷ cs) x g = run-good cs (after π x c) (call-good x g c)
+
+  -- a good state over bytes that keep a history
+  pub record Right (x : World (π .State)) (h : History) : Type 0 where
+    pub good : ok .Good (x .state)
+    pub keeps : Keeps (π .numbers (x .state)) (record { holds = ok .holds (x .state); memory = x .memory }) h
+
+  module _ (x : World (π .State)) (h : History) (r : Right x h) where
+    abbrev numbers : Numbers
+    numbers = π .numbers (x .state)
+
+    abbrev buffer : Buffer
+    buffer = record { holds = ok .holds (x .state); memory = x .memory }
+
+    -- ---- a read or a write that may be served
+
+    module _ (q : ℕ) (may : May π (x .state) q) where
+      kept : (op : Op) → Kept π (ok .Good) (ok .holds) op (x .state) q (outcomeOf π op x q)
+      kept op = ok .request op (costsIn π x) (x .state) q (r .good) may
+
+      -- the state afterwards holds what the moves say, over the numbers that it has kept
+      afterwards : (op : Op) (m : Memory) (h′ : History)
+          → Keeps numbers (record { holds = holdsAfter op q (outcomeOf π op x q .frame) (outcomeOf π op x q .answer) (ok .holds (x .state)); memory = m }) h′
+          → Right (record { state = outcomeOf π op x q .state; memory = m }) h′
+      afterwards op m h′ k =
+          record {
+            good = kept op .good;
+            keeps = subst (λ (z : Numbers). Keeps z (record { holds = ok .holds (outcomeOf π op x q .state); memory = m }) h′) (sym (kept op .same))
+                (keeps-same numbers _ _ m h′ (λ f. sym (kept op .holding f)) k);
+          }
+
+      read-bytes : Keeps numbers
+          (record { holds = holdsAfter Read q (outcomeOf π Read x q .frame) (outcomeOf π Read x q .answer) (ok .holds (x .state)); memory = broughtIn π Read x q }) h
+      read-bytes =
+          read-keeps numbers buffer h (r .keeps) q (outcomeOf π Read x q .frame) (may .inside) (kept Read .frame) (outcomeOf π Read x q .answer)
+          (kept Read .right) (kept Read .victim)
+
+      read-right : Right (record { state = outcomeOf π Read x q .state; memory = broughtIn π Read x q }) h
+      read-right = afterwards Read (broughtIn π Read x q) h read-bytes
+
+      pub read-hands-out : handedOut π x q ≡ h q
+      read-hands-out =
+          read-bytes .held q (outcomeOf π Read x q .frame)
+          (read-has numbers buffer h (r .keeps) q (outcomeOf π Read x q .frame) (may .inside) (kept Read .frame) (outcomeOf π Read x q .answer) (kept Read .right))
+
+      write-right : (start : ℕ) (bytes : List ℕ) → start + length bytes ≤ numbers .P
+          → Right (record { state = outcomeOf π Write x q .state; memory = writtenIn π x q start bytes }) (laid q start bytes h)
+      write-right start bytes fit =
+          afterwards Write (writtenIn π x q start bytes) (laid q start bytes h)
+          (write-keeps numbers buffer h (r .keeps) q (outcomeOf π Write x q .frame) (may .inside) (kept Write .frame) start bytes fit
+          (outcomeOf π Write x q .answer) (kept Write .right) (kept Write .victim))
+
+    flush-right : π .counts (x .state) .served < mostServed → Right (record { state = π .flushed (x .state); memory = served π x flush .memory }) h
+    flush-right more =
+        let k = ok .flush (x .state) (r .good) more in
         record {
-          good = kept .good;
-          keeps = subst (λ (n : Numbers). Keeps n (bufferOf (outcomeOf op x q .state) m) h′) (sym (kept .numbers))
-              (keeps-same (x .state .numbers) _ _ m h′ (λ f. sym (follows .holds f)) k);
+          good = k .good;
+          keeps = subst (λ (z : Numbers). Keeps z (record { holds = ok .holds (π .flushed (x .state)); memory = served π x flush .memory }) h) (sym (k .same))
+              (keeps-same numbers _ _ _ h (k .holding) (flush-keeps numbers buffer h (r .keeps) (π .page (x .state)) (π .dirty (x .state)) (k .right)));
         }
 
-  module _ (q : ℕ) (inside : q < x .state .numbers .N) (left : x .state .counts .served < mostServed) where
-    read-bytes : Keeps (x .state .numbers)
-        (record { holds = holdsAfter Read q (outcomeOf Read x q .frame) (outcomeOf Read x q .answer) (holdingOf (x .state)); memory = broughtIn Read x q }) h
-    read-bytes =
-        read-keeps (x .state .numbers) (bufferOf (x .state) (x .memory)) h (r .keeps) q (outcomeOf Read x q .frame) inside (kept Read q inside left .frame)
-        (outcomeOf Read x q .answer) (follows Read q inside left .right) (kept Read q inside left .victim)
+    -- ---- any call
 
-    read-right : Right (readWorld x q) h
-    read-right = afterwards Read q inside left (broughtIn Read x q) h read-bytes
+    pub call-right : (c : Call) → Right (after π x c) (toldBy π (verdictOf π x c) c h)
+    call-right c =
+        call-cases π x c (λ l. Right (record { state = l .state; memory = l .memory }) (toldBy π (verdictOf π x c) c h)) (λ y e. rw e r) (λ e. rw e (right-served c e))
+      where
+        right-served : (d : Call) → verdictOf π x d ≡ Fine → Right (record { state = served π x d .state; memory = served π x d .memory }) (toldBy π Fine d h)
+        right-served (read q out) e = let a = read-clear π x q out e in read-right q (record { inside = a .inside; more = a .more })
+        right-served (write q start bytes) e =
+            let a = write-clear π x q start bytes e in
+            write-right q (record { inside = a .inside; more = a .more }) start bytes (stretch-fits _ start (length bytes) (a .fit) .1)
+        right-served flush e = flush-right (flush-more π x e)
+        right-served total e = r
 
-    pub read-hands-out : handedOut x q ≡ h q
-    read-hands-out =
-        read-bytes .held q (outcomeOf Read x q .frame)
-        (read-has (x .state .numbers) (bufferOf (x .state) (x .memory)) h (r .keeps) q (outcomeOf Read x q .frame) inside (kept Read q inside left .frame)
-        (outcomeOf Read x q .answer) (follows Read q inside left .right))
+  pub run-right : (cs : List Call) (x : World (π .State)) (h : History) → Right x h → Right (afterAll π x cs) (history π x cs h)
+  run-right [] x h r = r
+  run-right (c ∷ cs) x h r = run-right cs (after π x c) (toldBy π (verdictOf π x c) c h) (call-right x h r c)
 
-    write-right : (start : ℕ) (bytes : List ℕ) → start + length bytes ≤ x .state .numbers .P → Right (writeWorld x q start bytes) (laid q start bytes h)
-    write-right start bytes fit =
-        afterwards Write q inside left (overlaid (x .state .numbers .P) (outcomeOf Write x q .frame) start bytes (broughtIn Write x q)) (laid q start bytes h)
-        (write-keeps (x .state .numbers) (bufferOf (x .state) (x .memory)) h (r .keeps) q (outcomeOf Write x q .frame) inside (kept Write q inside left .frame)
-        start bytes fit (outcomeOf Write x q .answer) (follows Write q inside left .right) (kept Write q inside left .victim))
-
-  flush-right : x .state .counts .served < mostServed → Right (flushWorld x) h
-  flush-right left =
-      record {
-        good = flush-good (x .state) (r .good) left;
-        keeps = keeps-same (x .state .numbers) _ _ _ h (flush-follows (x .state))
-            (flush-keeps (x .state .numbers) (bufferOf (x .state) (x .memory)) h (r .keeps) (x .state .page) (x .state .lists .D) (D-right (x .state) (r .good)));
-      }
-
-  -- ---- any call
-
-  pub call-right : (c : Call) → Right (after x c) (toldBy (verdictOf x c) c h)
-  call-right c = go (verdictOf x c) refl c refl
-    where
-      go : (v : Verdict) → verdictOf x c ≡ v → (d : Call) → c ≡ d → Right (afterBy v x d) (toldBy v d h)
-      go (Refused y) e d i = r
-      go Fine e (read q n) i =
-          let a = request-clear _ (x .state) _ _ q _ (ap (verdictOf x) (sym i) ∙ e) in read-right q (a .inside) (a .left)
-      go Fine e (write q start bytes) i =
-          let a = request-clear _ (x .state) _ _ q _ (ap (verdictOf x) (sym i) ∙ e) in
-          write-right q (a .inside) (a .left) start bytes (stretch-fits _ start (length bytes) (a .fit) .1)
-      go Fine e flush i = let a = flush-clear _ (x .state) _ _ (ap (verdictOf x) (sym i) ∙ e) in flush-right (a .left)
-
-pub run-right : (cs : List Call) (x : World) (h : History) → Right x h → Right (afterAll x cs) (history x cs h)
-run-right [] x h r = r
-run-right (c ∷ cs) x h r = run-right cs (after x c) (toldBy (verdictOf x c) c h) (call-right x h r c)
-
--- ---- from opening
-
-module _ (n : Numbers) (l : Limits n) (frames store : List ℕ) (hf : length frames ≡ n .b * n .P) (hs : length store ≡ n .N * n .P) where
-  pub opened-right : Right (openedWorld n frames store) (λ p. pageOf (n .P) p store)
-  opened-right =
-      record {
-        good = opened-good n l;
-        keeps = keeps-same n _ _ _ _ (opened-vacant n) (vacant-keeps n (record { frames = frames; store = store }) hf hs);
-      }
-
-  pub last-written : (cs : List Call) (q size : ℕ) → verdictOf (afterAll (openedWorld n frames store) cs) (read q size) ≡ Fine
-      → handedOut (afterAll (openedWorld n frames store) cs) q ≡ history (openedWorld n frames store) cs (λ p. pageOf (n .P) p store) q
-  last-written cs q size e =
-      let x : World = afterAll (openedWorld n frames store) cs in
-      let a = request-clear _ (x .state) _ _ q _ e in
-      read-hands-out x _ (run-right cs (openedWorld n frames store) _ opened-right) q (a .inside) (a .left)
+  pub last-written : (x : World (π .State)) (h : History) → Right x h → (q : ℕ) (out : List ℕ) → verdictOf π x (read q out) ≡ Fine → left π x (read q out) .out ≡ h q
+  unfolding left
+  last-written x h r q out e =
+      let a = read-clear π x q out e in
+      ap (λ (v : Verdict). leftBy π v x (read q out) .out) e ∙ read-hands-out x h r q (record { inside = a .inside; more = a .more })

@@ -1,13 +1,15 @@
--- What follows from the definitions alone, without any code. Assumes nothing.
+-- What follows from the definitions alone, without any code: LastWritten, Exactly, Frames and Framed for any policy, the others of CASA. Assumes nothing.
 pub mod Words
 pub mod Refusals
 pub mod Limits
-pub mod Good
 pub mod Moves
 pub mod Outcomes
-pub mod Keeps
-pub mod View
 pub mod LastWritten
+pub mod Exactly
+pub mod Frames
+pub mod Framed
+pub mod Good
+pub mod Steps
 pub mod Drift
 pub mod Adjust
 pub mod Table

@@ -13,7 +13,7 @@ use Rattle.pages.specs.Pages.{splice, pageOf, withPage, InPages}
 use Rattle.pages.proofs.Pages.{page-in, pageOf-length, withPage-length, splice-pageOf-length, pageOf-same, pageOf-other, withPage-overlay}
 use Rattle.model.specs.Numbers.{Numbers}
 use Rattle.model.specs.Bytes.{Memory}
-use Rattle.model.specs.Moves.{Holding, vacant, clean, dirty, Has, HasDirty, Loose, without, Buffer, put, Move, load, writeBack, edit, wipe, apply, Allowed, History, laid, told, Keeps, applyAll, AllAllowed, toldAll}
+use Rattle.model.specs.Moves.{Holding, vacant, clean, dirty, Has, HasDirty, Loose, without, Buffer, put, Move, load, writeBack, edit, wipe, apply, Allowed, History, laid, told, Keeps}
 
 -- ---- a function changed at one number
 
@@ -179,12 +179,6 @@ module _ (n : Numbers) (x : Buffer) (h : History) (k : Keeps n x h) where
   move-keeps (writeBack p f) ok = back-keeps p f ok
   move-keeps (edit p f start bytes) ok = edit-keeps p f start bytes ok
   move-keeps (wipe p) ok = wipe-keeps p ok
-
--- ---- any run of moves
-
-pub moves-keep : (n : Numbers) (ms : List Move) (x : Buffer) (h : History) → Keeps n x h → AllAllowed n ms x → Keeps n (applyAll (n .P) ms x) (toldAll (n .P) ms h)
-moves-keep n [] x h k ok = k
-moves-keep n (m ∷ ms) x h k ok = moves-keep n ms (apply (n .P) m x) (told (n .P) m h) (move-keeps n x h k m (ok .0)) (ok .1)
 
 -- from opening, with every frame vacant, each page is what the store first had
 pub vacant-keeps : (n : Numbers) (m : Memory) → length (m .frames) ≡ n .b * n .P → length (m .store) ≡ n .N * n .P

@@ -1,11 +1,14 @@
 pub mod Numbers
 pub mod Words
 pub mod Target
+pub mod Counts
+pub mod Bytes
+pub mod Moves
+pub mod Frames
+pub mod Policy
 pub mod State
 pub mod Good
 pub mod Request
 pub mod Refusals
-pub mod Bytes
-pub mod Moves
 pub mod Run
 pub mod Table

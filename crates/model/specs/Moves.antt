@@ -105,15 +105,3 @@ pub record Keeps (n : Numbers) (x : Buffer) (h : History) : Type 0 where
   pub one : (p f g : ℕ) → Has p (x .holds f) → Has p (x .holds g) → f ≡ g
   pub held : (p f : ℕ) → Has p (x .holds f) → pageOf (n .P) f (x .memory .frames) ≡ h p
   pub stored : (p : ℕ) → p < n .N → ((f : ℕ) → HasDirty p (x .holds f) → ⊥) → pageOf (n .P) p (x .memory .store) ≡ h p
-
-abbrev pub applyAll : ℕ → List Move → Buffer → Buffer
-applyAll P [] x = x
-applyAll P (m ∷ ms) x = applyAll P ms (apply P m x)
-
-abbrev pub AllAllowed : Numbers → List Move → Buffer → Type 0
-AllAllowed n [] x = Unit {0}
-AllAllowed n (m ∷ ms) x = Allowed n m x × AllAllowed n ms (apply (n .P) m x)
-
-abbrev pub toldAll : ℕ → List Move → History → History
-toldAll P [] h = h
-toldAll P (m ∷ ms) h = toldAll P ms (told P m h)

@@ -1,12 +1,12 @@
 -- When something is refused: the scope's table, in the scope's order.
 -- Assumes nothing.
+use mathlib.Core.Path.{_≡_}
 use Prim.Native.Nat.{ℕ, _+_}
 use mathlib.Core.Bool.{Bool, true, false, not, _&&_}
 use mathlib.Core.List.{List, [], _∷_}
 use lib.Dec.{leb, ltb, eqb}
 use Rattle.pages.specs.Memory.{sizesMatch}
 use Rattle.model.specs.Numbers.{Numbers, inLimits, meant, mostServed}
-use Rattle.model.specs.State.{State}
 use Rattle.model.specs.declared.Refusal.{Refusal}
 use Rattle.model.specs.declared.Refusal.the-variants.{OutOfLimits, BrokenPool, WrongMemory, NoSuchPage, WrongBytes, Spent}
 use Rattle.model.specs.declared.Verdict.{Verdict}
@@ -24,6 +24,11 @@ verdictBy false x later = later
 abbrev pub first : List Row → Verdict
 first [] = Fine
 first (x ∷ xs) = verdictBy (x .when) (x .why) (first xs)
+
+-- y is given by the first row whose condition holds: its own does, and none before it
+pub data GivenBy (y : Refusal) : List Row → Type 0 where
+  here : {x : Row} {xs : List Row} → x .when ≡ true → x .why ≡ y → GivenBy y (x ∷ xs)
+  later : {x : Row} {xs : List Row} → x .when ≡ false → GivenBy y xs → GivenBy y (x ∷ xs)
 
 -- ---- the conditions
 
@@ -58,25 +63,18 @@ stretchFits P start n = ltb 0 n && leb (start + n) P
 abbrev pub openRows : Numbers → List Row
 openRows n = outOfLimits (meant n) ∷ []
 
--- of a read or a write: whether the pool is sound, the state it holds, the bytes lent, the page, whether the caller's bytes fit
-abbrev pub requestRows : Bool → State → ℕ → ℕ → ℕ → Bool → List Row
-requestRows sound s m n page fit =
-    brokenPool sound ∷ wrongMemory (s .numbers) m n ∷ noSuchPage (s .numbers) page ∷ wrongBytes fit ∷ spent (s .counts .served) ∷ []
+-- of a read or a write, behind 2: the pool's numbers and served calls, the bytes lent, the page, whether the caller's bytes fit
+abbrev pub requestRows : Numbers → ℕ → ℕ → ℕ → ℕ → Bool → List Row
+requestRows a served m n page fit = wrongMemory a m n ∷ noSuchPage a page ∷ wrongBytes fit ∷ spent served ∷ []
 
-abbrev pub flushRows : Bool → State → ℕ → ℕ → List Row
-flushRows sound s m n = brokenPool sound ∷ wrongMemory (s .numbers) m n ∷ spent (s .counts .served) ∷ []
-
-abbrev pub totalRows : Bool → List Row
-totalRows sound = brokenPool sound ∷ []
+abbrev pub flushRows : Numbers → ℕ → ℕ → ℕ → List Row
+flushRows a served m n = wrongMemory a m n ∷ spent served ∷ []
 
 unfoldable pub openVerdict : Numbers → Verdict
 openVerdict n = first (openRows n)
 
-unfoldable pub requestVerdict : Bool → State → ℕ → ℕ → ℕ → Bool → Verdict
-requestVerdict sound s m n page fit = first (requestRows sound s m n page fit)
+unfoldable pub requestVerdict : Bool → Numbers → ℕ → ℕ → ℕ → ℕ → Bool → Verdict
+requestVerdict sound a served m n page fit = first (brokenPool sound ∷ requestRows a served m n page fit)
 
-unfoldable pub flushVerdict : Bool → State → ℕ → ℕ → Verdict
-flushVerdict sound s m n = first (flushRows sound s m n)
-
-unfoldable pub totalVerdict : Bool → Verdict
-totalVerdict sound = first (totalRows sound)
+unfoldable pub flushVerdict : Bool → Numbers → ℕ → ℕ → ℕ → Verdict
+flushVerdict sound a served m n = first (brokenPool sound ∷ flushRows a served m n)

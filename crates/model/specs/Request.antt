@@ -3,10 +3,11 @@
 --     chosen     which frame a fault takes: nothing else knows the empty-list rule
 --     taken      that frame out of its list, with its victim
 --     request    the next state, the frame that has the page, and the answer
+--     states     all of it as a policy
 -- Assumes nothing.
 use Prim.Native.Nat.{ℕ, _-_, _<_}
-use mathlib.Core.Bool.{Bool}
-use mathlib.Core.List.{[], _∷_, _++_}
+use mathlib.Core.Bool.{Bool, true}
+use mathlib.Core.List.{List, [], _∷_, _++_}
 use lib.ListN.{length, getD}
 use lib.Dec.{ltb}
 use Rattle.order.specs.Lists.{removeAt, moveToFront}
@@ -14,7 +15,8 @@ use Rattle.order.specs.Find.{findFrom}
 use Rattle.order.specs.declared.Found.{Found}
 use Rattle.order.specs.declared.Found.the-variants.{At, Nowhere}
 use Rattle.model.specs.Numbers.{if-else}
-use Rattle.model.specs.Target.{Costs, up, down, adjust, aboveTarget}
+use Rattle.model.specs.Target.{Costs, Adjustment, up, down, adjust, aboveTarget}
+use Rattle.model.specs.Policy.{Outcome, Policy}
 use Rattle.model.specs.State.{State, withLists, withPageIn, withTarget, counted, pageIn}
 use Rattle.model.specs.declared.Op.{Op}
 use Rattle.model.specs.declared.Op.the-variants.{Read, Write}
@@ -24,7 +26,6 @@ use Rattle.model.specs.declared.Choice.{Choice}
 use Rattle.model.specs.declared.Choice.the-variants.{OfEmpty, OfClean, OfDirty}
 use Rattle.model.specs.declared.Victim.{Victim}
 use Rattle.model.specs.declared.Victim.the-variants.{None, Clean, Dirty}
-use Rattle.model.specs.declared.Answer.{Answer}
 use Rattle.model.specs.declared.Answer.the-variants.{Hit, Fault}
 
 -- ---- where a page is
@@ -91,37 +92,32 @@ writesOf (Dirty q) = 1
 
 -- ---- what a request does
 
-pub record Outcome : Type 0 where
-  pub state : State
-  pub frame : ℕ
-  pub answer : Answer
-
 -- a hit on frame f leaves state s
-abbrev pub hit : ℕ → State → Outcome
+abbrev pub hit : ℕ → State → Outcome State
 hit f s = record { state = counted 0 0 s; frame = f; answer = Hit }
 
 -- lines 2 to 4
-abbrev pub readClean : Costs → State → ℕ → Outcome
+abbrev pub readClean : Costs → State → ℕ → Outcome State
 readClean k s i =
     hit (getD (s .lists .C) i 0)
     (withTarget (adjust (s .numbers .b) (s .target) (up k (length (s .lists .C)) (length (s .lists .D))))
     (withLists (s .lists .E) (moveToFront i (s .lists .C)) (s .lists .D) s))
 
 -- lines 5 and 6
-abbrev pub writeClean : State → ℕ → Outcome
+abbrev pub writeClean : State → ℕ → Outcome State
 writeClean s i =
     hit (getD (s .lists .C) i 0)
     (withLists (s .lists .E) (removeAt i (s .lists .C)) (getD (s .lists .C) i 0 ∷ s .lists .D) s)
 
 -- lines 7 to 9
-abbrev pub writeDirty : Costs → State → ℕ → Outcome
+abbrev pub writeDirty : Costs → State → ℕ → Outcome State
 writeDirty k s i =
     hit (getD (s .lists .D) i 0)
     (withTarget (adjust (s .numbers .b) (s .target) (down k (length (s .lists .C)) (length (s .lists .D))))
     (withLists (s .lists .E) (s .lists .C) (moveToFront i (s .lists .D)) s))
 
 -- lines 10 to 12
-abbrev pub readDirty : State → ℕ → Outcome
+abbrev pub readDirty : State → ℕ → Outcome State
 readDirty s i =
     hit (getD (s .lists .D) i 0) (withLists (s .lists .E) (s .lists .C) (moveToFront i (s .lists .D)) s)
 
@@ -131,7 +127,7 @@ loaded Read f q s = withPageIn f q (withLists (s .lists .E) (f ∷ s .lists .C) 
 loaded Write f q s = withPageIn f q (withLists (s .lists .E) (s .lists .C) (f ∷ s .lists .D) s)
 
 -- lines 14 to 27; line 22 is the physical read
-abbrev pub faultInto : Op → ℕ → Taken → Outcome
+abbrev pub faultInto : Op → ℕ → Taken → Outcome State
 faultInto op q t =
     record {
       state = counted 1 (writesOf (t .victim)) (loaded op (t .frame) q (t .state));
@@ -139,10 +135,10 @@ faultInto op q t =
       answer = Fault (t .victim);
     }
 
-abbrev pub faulted : Op → State → ℕ → Outcome
+abbrev pub faulted : Op → State → ℕ → Outcome State
 faulted op s q = faultInto op q (taken s (chosen s))
 
-abbrev pub requestAt : Op → Costs → State → ℕ → Place → Outcome
+abbrev pub requestAt : Op → Costs → State → ℕ → Place → Outcome State
 requestAt Read k s q (InClean i) = readClean k s i
 requestAt Write k s q (InClean i) = writeClean s i
 requestAt Write k s q (InDirty i) = writeDirty k s i
@@ -150,10 +146,38 @@ requestAt Read k s q (InDirty i) = readDirty s i
 requestAt Read k s q Absent = faulted Read s q
 requestAt Write k s q Absent = faulted Write s q
 
-abbrev pub request : Op → Costs → State → ℕ → Outcome
+abbrev pub request : Op → Costs → State → ℕ → Outcome State
 request op k s q = requestAt op k s q (locate s q)
 
 -- ---- a flush: the pages of D are written from last to first, and each goes to the front of C
 
 abbrev pub flushed : State → State
 flushed s = counted 0 (length (s .lists .D)) (withLists (s .lists .E) (s .lists .D ++ s .lists .C) [] s)
+
+-- ---- CASA as a policy, on plain states; pools that hold them are tested for soundness
+
+abbrev pub states : Policy
+states =
+    record {
+      State = State;
+      sound = λ s. true;
+      numbers = λ s. s .numbers;
+      counts = λ s. s .counts;
+      request = request;
+      flushed = flushed;
+      dirty = λ s. s .lists .D;
+      page = λ s. s .page;
+    }
+
+-- ---- the adjustments that a request makes, with the sizes that the lists have then
+
+abbrev pub adjustmentsAt : Op → Costs → State → Place → List Adjustment
+adjustmentsAt Read k s (InClean i) = up k (length (s .lists .C)) (length (s .lists .D)) ∷ []
+adjustmentsAt Write k s (InClean i) = []
+adjustmentsAt Write k s (InDirty i) = down k (length (s .lists .C)) (length (s .lists .D)) ∷ []
+adjustmentsAt Read k s (InDirty i) = []
+adjustmentsAt Read k s Absent = []
+adjustmentsAt Write k s Absent = []
+
+abbrev pub adjustmentsOf : Op → Costs → State → ℕ → List Adjustment
+adjustmentsOf op k s q = adjustmentsAt op k s (locate s q)

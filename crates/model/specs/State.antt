@@ -1,24 +1,19 @@
 -- What a pool holds, as plain lists and numbers. Every state is made by `opened` and the setters below.
 -- Assumes nothing.
-use Prim.Native.Nat.{ℕ, _+_, _*_}
+use Prim.Native.Nat.{ℕ, _+_}
 use mathlib.Core.List.{List, []}
 use lib.ListN.{getD, set, replicate}
 use Rattle.order.specs.Lists.{downFrom}
 use Rattle.order.specs.Count.{count}
 use Rattle.model.specs.Numbers.{Numbers}
-use Rattle.model.specs.Target.{Costs}
+use Rattle.model.specs.Counts.{Counts, countedBy}
+use Rattle.model.specs.Frames.{Frames}
 
 -- frame numbers, the most recently used first: empty, clean, dirty
 pub record Lists : Type 0 where
   pub E : List ℕ
   pub C : List ℕ
   pub D : List ℕ
-
--- served calls, physical reads, physical writes
-pub record Counts : Type 0 where
-  pub served : ℕ
-  pub nR : ℕ
-  pub nW : ℕ
 
 pub record State : Type 0 where
   pub numbers : Numbers
@@ -62,17 +57,13 @@ counted reads writes s =
       lists = s .lists;
       page = s .page;
       target = s .target;
-      counts = record { served = s .counts .served + 1; nR = s .counts .nR + reads; nW = s .counts .nW + writes };
+      counts = countedBy reads writes (s .counts);
     }
 
 -- ---- readers
 
 abbrev pub pageIn : State → ℕ → ℕ
 pageIn s f = getD (s .page) f 0
-
--- the costs in force: those that the pool was opened with
-abbrev pub costsOf : State → Costs
-costsOf s = record { r = s .numbers .r; w = s .numbers .w }
 
 -- how often a frame stands in C and D, and in all three lists
 abbrev pub resident : Lists → ℕ → ℕ
@@ -81,6 +72,6 @@ resident l f = count f (l .C) + count f (l .D)
 abbrev pub standing : Lists → ℕ → ℕ
 standing l f = count f (l .E) + resident l f
 
--- nR × r + nW × w
-abbrev pub totalCost : State → ℕ
-totalCost s = s .counts .nR * s .numbers .r + s .counts .nW * s .numbers .w
+-- the state by its frames: those of C and D are resident, those of D unsaved
+abbrev pub framesOf : State → Frames
+framesOf s = record { empty = λ f. count f (s .lists .E); resident = resident (s .lists); unsaved = λ f. count f (s .lists .D); page = s .page }

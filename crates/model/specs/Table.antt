@@ -4,10 +4,12 @@ use Prim.Native.Nat.{ℕ, _-_}
 use mathlib.Core.List.{List, [], _∷_}
 use lib.ListN.{getD, replicate}
 use Rattle.pages.specs.Pages.{pageOf}
-use Rattle.model.specs.Words.{Said, hit, fault, faultClean, faultDirty, flushed as wrote, answerSays}
-use Rattle.model.specs.State.{State, withTarget, pageIn, totalCost}
-use Rattle.model.specs.Run.{World, openedWorld, outcomeOf, readWorld, writeWorld, flushWorld}
-use lib.ListN.{length}
+use Rattle.model.specs.Words.{Said, hit, fault, faultClean, faultDirty, flushed as wrote}
+use Rattle.model.specs.Counts.{totalCost}
+use Rattle.model.specs.Bytes.{Memory}
+use Rattle.model.specs.State.{State, opened, withTarget, pageIn}
+use Rattle.model.specs.Request.{states}
+use Rattle.model.specs.Run.{World, Call, read, write, flush, outcomeOf, served}
 use Rattle.model.specs.declared.Op.the-variants.{Read, Write}
 
 -- a record of a trace: a read, a write of one byte to byte 0, a flush
@@ -33,30 +35,37 @@ abbrev pub rowOf : Said → ℕ → List ℕ → State → Row
 rowOf a before byte s =
     record { says = a; writes = s .counts .nW - before; C = pagesOf s (s .lists .C); D = pagesOf s (s .lists .D); target = s .target; byte = byte }
 
--- byte 0 of the frame that served a request
-abbrev pub byteIn : World → ℕ → List ℕ
-byteIn x f = getD (pageOf (x .state .numbers .P) f (x .memory .frames)) 0 0 ∷ []
+-- the call that it asks, on pages of 16 bytes, and the world after it
+abbrev pub callOf : Record → Call
+callOf (R q) = read q (replicate 16 0)
+callOf (W q v) = write q 0 (v ∷ [])
+callOf F = flush
 
-abbrev pub rows : World → List Record → List Row
-rows x [] = []
-rows x (R q ∷ rs) =
-    let y = readWorld x q in
-    rowOf (answerSays (outcomeOf Read x q .answer)) (x .state .counts .nW) (byteIn y (outcomeOf Read x q .frame)) (y .state) ∷ rows y rs
-rows x (W q v ∷ rs) =
-    let y = writeWorld x q 0 (v ∷ []) in
-    rowOf (answerSays (outcomeOf Write x q .answer)) (x .state .counts .nW) (byteIn y (outcomeOf Write x q .frame)) (y .state) ∷ rows y rs
-rows x (F ∷ rs) =
-    let y = flushWorld x in rowOf (wrote (length (x .state .lists .D))) (x .state .counts .nW) [] (y .state) ∷ rows y rs
+abbrev pub next : World State → Record → World State
+next x r = record { state = served states x (callOf r) .state; memory = served states x (callOf r) .memory }
 
-abbrev pub afterRecords : World → List Record → World
+abbrev pub afterRecords : World State → List Record → World State
 afterRecords x [] = x
-afterRecords x (R q ∷ rs) = afterRecords (readWorld x q) rs
-afterRecords x (W q v ∷ rs) = afterRecords (writeWorld x q 0 (v ∷ [])) rs
-afterRecords x (F ∷ rs) = afterRecords (flushWorld x) rs
+afterRecords x (r ∷ rs) = afterRecords (next x r) rs
+
+-- byte 0 of the frame that served a request, in the bytes that it left
+abbrev pub byteIn : World State → Record → Memory → List ℕ
+byteIn x (R q) m = getD (pageOf 16 (outcomeOf states Read x q .frame) (m .frames)) 0 0 ∷ []
+byteIn x (W q v) m = getD (pageOf 16 (outcomeOf states Write x q .frame) (m .frames)) 0 0 ∷ []
+byteIn x F m = []
+
+abbrev pub rows : World State → List Record → List Row
+rows x [] = []
+rows x (r ∷ rs) =
+    let y = next x r in rowOf (served states x (callOf r) .said) (x .state .counts .nW) (byteIn x r (y .memory)) (y .state) ∷ rows y rs
 
 -- a pool of 2 frames over 8 pages of 16 zero bytes
-abbrev pub start : ℕ → ℕ → World
-start r w = openedWorld (record { b = 2; P = 16; N = 8; r = r; w = w }) (replicate 32 0) (replicate 128 0)
+abbrev pub start : ℕ → ℕ → World State
+start r w =
+    record {
+      state = opened (record { b = 2; P = 16; N = 8; r = r; w = w });
+      memory = record { frames = replicate 32 0; store = replicate 128 0 };
+    }
 
 abbrev pub listing : List Record
 listing = R 0 ∷ W 1 7 ∷ R 0 ∷ R 2 ∷ W 1 9 ∷ W 2 5 ∷ R 3 ∷ F ∷ R 1 ∷ []
@@ -83,10 +92,10 @@ worked =
     let s = afterRecords (start 1 3) listing .state in
     record {
       listing = rows (start 1 3) listing;
-      end = s .counts .nR ∷ s .counts .nW ∷ totalCost s ∷ [];
+      end = s .counts .nR ∷ s .counts .nW ∷ totalCost (s .numbers) (s .counts) ∷ [];
       climb = rows (start 3 1) climb;
-      takes = 65536 - outcomeOf Write (record { state = balanced; memory = start 1 2 .memory }) 1 .state .target;
-      adds = outcomeOf Read (record { state = balanced; memory = start 1 2 .memory }) 0 .state .target - 65536;
+      takes = 65536 - outcomeOf states Write (record { state = balanced; memory = start 1 2 .memory }) 1 .state .target;
+      adds = outcomeOf states Read (record { state = balanced; memory = start 1 2 .memory }) 0 .state .target - 65536;
     }
 
 abbrev pub row : Said → ℕ → List ℕ → List ℕ → ℕ → List ℕ → Row

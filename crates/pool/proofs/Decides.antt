@@ -16,8 +16,9 @@ use borrow.Author.Tests.{not-true, not-false}
 use Rattle.order.specs.Count.{count}
 use Rattle.order.specs.Places.{places, Holds}
 use Rattle.model.specs.Numbers.{Numbers, unit, mostServed, inLimits, Limits}
-use Rattle.model.specs.State.{State, pageIn, resident, standing}
-use Rattle.model.specs.Good.{Good, Blank}
+use Rattle.model.specs.State.{State, pageIn, resident, standing, framesOf}
+use Rattle.model.specs.Frames.{Blank}
+use Rattle.model.specs.Good.{Good}
 use Rattle.model.proofs.Limits.{limits-hold, hold-limits}
 use Rattle.model.proofs.Good.{standing-below}
 use Rattle.pool.specs.Parts.{Decides, every, isZero, CountsRight, FramesRight}
@@ -118,25 +119,25 @@ module _ (s : State) where
       let below : (f : ℕ) → 1 ≤ resident (s .lists) f → f < s .numbers .b = λ f h. frames-below (x .1 .0) f (omega arith) in
       record {
         limits = x .0;
-        once = x .1 .0 .once;
-        others = x .1 .0 .others;
-        paged = x .1 .1 .0 .0;
-        inside = λ f h. x .1 .1 .0 .1 .0 f (below f h) h;
-        apart = λ f g h k e.
-            dite (decLt g f) (λ l. absurd (x .1 .1 .0 .1 .1 f (below f h) g l h k e))
-            (λ n. dite (decLt f g) (λ l. absurd (x .1 .1 .0 .1 .1 g (below g k) f l k h (sym e))) (λ m. omega arith));
+        placed = record {
+          once = x .1 .0 .once;
+          others = x .1 .0 .others;
+          paged = x .1 .1 .0 .0;
+          inside = λ f h. x .1 .1 .0 .1 .0 f (below f h) h;
+          apart = λ f g h k e.
+              dite (decLt g f) (λ l. absurd (x .1 .1 .0 .1 .1 f (below f h) g l h k e))
+              (λ n. dite (decLt f g) (λ l. absurd (x .1 .1 .0 .1 .1 g (below g k) f l k h (sym e))) (λ m. omega arith));
+        };
         target-high = x .1 .1 .1 .target-high;
-        served-high = x .1 .1 .1 .served-high;
-        reads-high = x .1 .1 .1 .reads-high;
-        writes-high = x .1 .1 .1 .writes-high;
+        counts = record { served-high = x .1 .1 .1 .served-high; reads-high = x .1 .1 .1 .reads-high; writes-high = x .1 .1 .1 .writes-high };
       })
       (λ g. (
         g .limits,
         (
-          record { once = g .once; others = g .others },
+          record { once = g .placed .once; others = g .placed .others },
           (
-            (g .paged, (λ f l h. g .inside f h, λ f l h n i k e. let m = g .apart f h i k e in omega arith)),
-            record { target-high = g .target-high; served-high = g .served-high; reads-high = g .reads-high; writes-high = g .writes-high },
+            (g .placed .paged, (λ f l h. g .placed .inside f h, λ f l h n i k e. let m = g .placed .apart f h i k e in omega arith)),
+            record { target-high = g .target-high; served-high = g .counts .served-high; reads-high = g .counts .reads-high; writes-high = g .counts .writes-high },
           ),
         ),
       ))
@@ -150,7 +151,7 @@ module _ (s : State) where
       countsB-exact)))
 
   -- a frame that is empty stands in a list, and so is one of those that are tested
-  blankB-exact : Exact (goodB s && blankB s) (Good s × Blank s)
+  blankB-exact : Exact (goodB s && blankB s) (Good s × Blank (framesOf s))
   blankB-exact =
       exact-iff
       (λ x. (x .0, λ f h. x .1 f (standing-below s (x .0) f (omega arith)) h))

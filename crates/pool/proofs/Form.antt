@@ -19,8 +19,9 @@ use Rattle.order.specs.Places.{places, pad, Holds}
 use Rattle.order.specs.Find.{findFrom}
 use Rattle.order.proofs.Places.{holds-getD}
 use Rattle.model.specs.Numbers.{mostServed}
-use Rattle.model.specs.State.{State}
-use Rattle.model.specs.Good.{Good, Blank}
+use Rattle.model.specs.State.{State, framesOf}
+use Rattle.model.specs.Frames.{Blank}
+use Rattle.model.specs.Good.{Good}
 use Rattle.model.proofs.Good.{C-below, D-below, lengths-sum}
 use Rattle.pool.specs.Pool.{poolOf, stateOf, Sound}
 use Rattle.pool.specs.declared.Pool.{Pool}
@@ -30,8 +31,8 @@ use Rattle.pool.specs.declared.Pool.{Pool}
 pub state-pool : (s : State) → length (s .page) ≡ s .numbers .b → stateOf (poolOf s) ≡ s
 state-pool s h = rw (take-at (s .lists .E) _ _ refl, take-at (s .lists .C) _ _ refl, take-at (s .lists .D) _ _ refl, take-at (s .page) _ _ h)
 
-pub sound-of : (s : State) → Good s → Blank s → Sound (poolOf s)
-sound-of s g b = let e = state-pool s (g .paged) in record { good = rw e g; blank = subst Blank (sym e) b; whole = ap poolOf (sym e) }
+pub sound-of : (s : State) → Good s → Blank (framesOf s) → Sound (poolOf s)
+sound-of s g b = let e = state-pool s (g .placed .paged) in record { good = rw e g; blank = subst (λ (t : State). Blank (framesOf t)) (sym e) b; whole = ap poolOf (sym e) }
 
 module _ (p : Pool) (s : State) (w : p ≡ poolOf s) where
   pub pool-empty : p .«empty_len» ≤ places → Holds (p .empty) (p .«empty_len») (s .lists .E)
@@ -96,7 +97,7 @@ module _ (p : Pool) (s : Sound p) where
   dirty-holds = pool-dirty p (stateOf p) (s .whole) (omega (arith, lengths-frames, s .good .limits .b-high))
 
   pub writes-fit : p .writes .0 ≤ places * mostServed
-  writes-fit = le-trans (s .good .writes-high) (mul-le-mul (s .good .limits .b-high) (s .good .served-high))
+  writes-fit = le-trans (s .good .counts .writes-high) (mul-le-mul (s .good .limits .b-high) (s .good .counts .served-high))
 
   -- ---- frames
 
@@ -113,7 +114,7 @@ module _ (p : Pool) (s : Sound p) where
 
   pub page-at : (f : ℕ) → f < p .frames → getD (p .page) f 0 ≡ getD (stateOf p .page) f 0
   page-at f h =
-      let k : f < length (stateOf p .page) = omega (arith, s .good .paged) in
+      let k : f < length (stateOf p .page) = omega (arith, s .good .placed .paged) in
       ap (λ (l : List ℕ). getD l f 0) page-pad ∙ List·getD-append (stateOf p .page) _ 0 f k
 
   -- the page of the frame at a place of a list
@@ -125,7 +126,7 @@ module _ (p : Pool) (s : Sound p) where
       → findFrom 0 (p .page) wanted fs ≡ findFrom 0 (stateOf p .page) wanted fs
   find-frames wanted fs h =
       ap (λ (l : List ℕ). findFrom 0 l wanted fs) page-pad
-      ∙ find-pad (stateOf p .page) wanted 0 fs (λ i l. omega (arith, h i l, s .good .paged))
+      ∙ find-pad (stateOf p .page) wanted 0 fs (λ i l. omega (arith, h i l, s .good .placed .paged))
 
   pub find-clean : (wanted : ℕ) → findFrom 0 (p .page) wanted (take (p .«clean_len») (p .clean)) ≡ findFrom 0 (stateOf p .page) wanted (stateOf p .lists .C)
   find-clean wanted = find-frames wanted (stateOf p .lists .C) (C-below (stateOf p) (s .good))

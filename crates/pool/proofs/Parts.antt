@@ -130,7 +130,7 @@ module _ (p : Pool) where
         empty = record { is = ap (λ (q : Pool). q .empty) (s .whole); len = en; fits = omega arith };
         clean = record { is = ap (λ (q : Pool). q .clean) (s .whole); len = cn; fits = omega arith };
         dirty = record { is = ap (λ (q : Pool). q .dirty) (s .whole); len = dn; fits = omega arith };
-        page = record { is = ap (λ (q : Pool). q .page) (s .whole); len = s .good .paged; fits = high };
+        page = record { is = ap (λ (q : Pool). q .page) (s .whole); len = s .good .placed .paged; fits = high };
       }
 
   -- ---- the parts
@@ -145,7 +145,7 @@ module _ (p : Pool) where
       let h = sound-held s in
       record {
         limits = g .limits;
-        counts = record { target-high = g .target-high; served-high = g .served-high; reads-high = g .reads-high; writes-high = g .writes-high };
+        counts = record { target-high = g .target-high; served-high = g .counts .served-high; reads-high = g .counts .reads-high; writes-high = g .counts .writes-high };
         lengths = omega (arith, lengths-sum (stateOf p) g, h .empty .len, h .clean .len, h .dirty .len);
         tails =
             record {
@@ -154,13 +154,13 @@ module _ (p : Pool) where
               dirty = holds-zeros (h .dirty);
               pages = holds-zeros (h .page);
             };
-        frames = record { once = g .once; others = g .others };
+        frames = record { once = g .placed .once; others = g .placed .others };
         pages =
             record {
               blank = λ f c. sym (page-same f (standing-below (stateOf p) g f (omega arith))) ∙ s .blank f c;
-              inside = λ f l c. rw (page-same f l) at (g .inside f (omega (arith, g .once f l)));
+              inside = λ f l c. rw (page-same f l) at (g .placed .inside f (omega (arith, g .placed .once f l)));
               apart = λ f k l m c d e.
-                  g .apart f k (omega (arith, g .once f l)) (omega (arith, g .once k m)) (page-same f l ∙ e ∙ sym (page-same k m));
+                  g .placed .apart f k (omega (arith, g .placed .once f l)) (omega (arith, g .placed .once k m)) (page-same f l ∙ e ∙ sym (page-same k m));
             };
       }
 
@@ -171,18 +171,18 @@ module _ (p : Pool) where
           good =
               record {
                 limits = r .limits;
-                once = r .frames .once;
-                others = r .frames .others;
-                paged = held .page .len;
-                inside = λ f c. rw (page-same f (below f (omega arith))) (r .pages .inside f (below f (omega arith)) (full f c));
-                apart = λ f k c d e.
-                    let l : f < p .frames = below f (omega arith) in
-                    let m : k < p .frames = below k (omega arith) in
-                    r .pages .apart f k l m (full f c) (full k d) (sym (page-same f l) ∙ e ∙ page-same k m);
+                placed = record {
+                  once = r .frames .once;
+                  others = r .frames .others;
+                  paged = held .page .len;
+                  inside = λ f c. rw (page-same f (below f (omega arith))) (r .pages .inside f (below f (omega arith)) (full f c));
+                  apart = λ f k c d e.
+                      let l : f < p .frames = below f (omega arith) in
+                      let m : k < p .frames = below k (omega arith) in
+                      r .pages .apart f k l m (full f c) (full k d) (sym (page-same f l) ∙ e ∙ page-same k m);
+                };
                 target-high = r .counts .target-high;
-                served-high = r .counts .served-high;
-                reads-high = r .counts .reads-high;
-                writes-high = r .counts .writes-high;
+                counts = record { served-high = r .counts .served-high; reads-high = r .counts .reads-high; writes-high = r .counts .writes-high };
               };
           blank = λ f c. page-same f (below f (omega arith)) ∙ r .pages .blank f c;
           whole = held-whole held;

@@ -2,14 +2,16 @@
 --     poolOf     the pool that holds a state: each list in 64 places, the others 0
 --     stateOf    the state that a pool holds
 --     Sound      the pool holds a good state, and 0 in each place without meaning
--- Only these know the fields of a pool.
+-- Beside these, the fields of a pool are known to its soundness test (specs/Test, proofs/Parts), to `made` in proofs/Form, to opening (`zeroPool` and `fresh` in `casa`)
+-- and to `sweep`, which changes one at a time.
 -- Assumes nothing.
 use mathlib.Core.Path.{_≡_}
 use lib.ListN.{length, take}
 use Rattle.order.specs.Places.{pad}
 use Rattle.model.specs.Numbers.{Numbers}
-use Rattle.model.specs.State.{State}
-use Rattle.model.specs.Good.{Good, Blank}
+use Rattle.model.specs.Frames.{Blank}
+use Rattle.model.specs.State.{State, framesOf}
+use Rattle.model.specs.Good.{Good}
 use Rattle.pool.specs.declared.Pool.{Pool}
 
 abbrev pub poolOf : State → Pool
@@ -54,5 +56,5 @@ stateOf p =
 -- "A pool is sound if .. Any other pool is broken."
 pub record Sound (p : Pool) : Type 0 where
   pub good : Good (stateOf p)
-  pub blank : Blank (stateOf p)
+  pub blank : Blank (framesOf (stateOf p))
   pub whole : p ≡ poolOf (stateOf p)

@@ -11,7 +11,8 @@ use Rattle.order.specs.Places.{places, pad, Holds}
 use Rattle.order.proofs.Lists.{removeAt-length}
 use Rattle.order.proofs.Places.{pad-set, holds-getD, holds-remove, holds-cons}
 use Rattle.model.specs.Numbers.{mostServed}
-use Rattle.model.specs.State.{State, Counts, withLists, withPageIn, counted}
+use Rattle.model.specs.Counts.{Counts}
+use Rattle.model.specs.State.{State, withLists, withPageIn, counted}
 use Rattle.model.specs.Good.{Good}
 use Rattle.model.specs.Request.{chosenBy, chosen, ChoiceIn, Taken, taken, writesOf, faulted}
 use Rattle.model.specs.declared.Op.the-variants.{Read, Write}
@@ -158,8 +159,8 @@ module _ (p : Pool) (s : Sound p) (k : Choice) (h : ChoiceIn (p .«empty_len») 
       record {
         frame = omega (arith, frame-is, inside .frame);
         few = rw m (writes-one (x .victim));
-        served = omega (arith, s .good .served-high);
-        reads = omega (arith, s .good .served-high, s .good .reads-high);
+        served = omega (arith, s .good .counts .served-high);
+        reads = omega (arith, s .good .counts .served-high, s .good .counts .reads-high);
         writes = omega (arith, writes-fit p s);
       }
 
@@ -168,7 +169,7 @@ module _ (p : Pool) (s : Sound p) (k : Choice) (h : ChoiceIn (p .«empty_len») 
       (all : (t : State) → x .pool ≡ poolOf t → x .frame < length (t .page) → r ≡ poolOf (counted 1 n (withPageIn (x .frame) q t))) where
     filled-is : r ≡ poolOf (counted 1 n (withPageIn (x .frame) q (taken (stateOf p) k .state)))
     filled-is =
-        let l : length (taken (stateOf p) k .state .page) ≡ p .frames = ap length (inside .page) ∙ s .good .paged in
+        let l : length (taken (stateOf p) k .state .page) ≡ p .frames = ap length (inside .page) ∙ s .good .placed .paged in
         all (taken (stateOf p) k .state) (ap (λ (y : Freed). y .pool) e) (omega (arith, frame-is, inside .frame))
 
     pub filled-rooms : (r .«clean_len» < places) × (r .«dirty_len» < places)

@@ -10,7 +10,7 @@ use Rattle.model.specs.Request.{placeBy, locate, requestAt, request}
 use Rattle.model.specs.declared.Op.{Op}
 use Rattle.model.specs.declared.Place.{Place}
 use Rattle.model.specs.declared.Place.the-variants.{InClean, InDirty}
-use Rattle.model.proofs.Keeps.{PlaceRight, locate-right}
+use Rattle.model.proofs.Steps.{PlaceRight, locate-right}
 use Rattle.pool.specs.Pool.{stateOf, Sound}
 use Rattle.pool.specs.declared.Pool.{Pool}
 use Rattle.pool.proofs.Form.{clean-holds, dirty-holds, find-clean, find-dirty}

@@ -2,8 +2,9 @@
 -- Assumes nothing.
 use Prim.Native.Nat.{ℕ}
 use Rattle.model.specs.Target.{Costs}
-use Rattle.model.specs.State.{counted, withPageIn}
-use Rattle.model.specs.Request.{Taken, writesOf, Outcome}
+use Rattle.model.specs.Policy.{Outcome}
+use Rattle.model.specs.State.{State, counted, withPageIn}
+use Rattle.model.specs.Request.{Taken, writesOf}
 use Rattle.pool.specs.Pool.{poolOf}
 use Rattle.step.specs.declared.Step.{Step}
 use Rattle.step.specs.declared.Freed.{Freed}
@@ -15,7 +16,7 @@ costs r w = record { r = r; w = w }
 abbrev pub mostCost : ℕ
 mostCost = 2147450880
 
-abbrev pub stepOf : Outcome → Step
+abbrev pub stepOf : Outcome State → Step
 stepOf o = record { pool = poolOf (o .state); frame = o .frame; answer = o .answer }
 
 abbrev pub freedOf : Taken → Freed

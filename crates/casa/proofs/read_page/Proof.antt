@@ -4,7 +4,8 @@ use lib.ListN.{length}
 use borrow.Author.Needs.{needs}
 use borrow.Author.Tests.{eqb-true}
 use Rattle.model.specs.Refusals.{outputFits}
-use Rattle.casa.proofs.Calls.{request-allowed, read-refused, read-fine}
+use Rattle.model.specs.Run.{read}
+use Rattle.casa.proofs.Calls.{request-allowed, call-refused, call-served, read-verdict}
 use Rattle.casa.proofs.read_page.Statement.{statement}
 use Rattle.casa.proofs.read_page.Tie as tie
 
@@ -30,8 +31,8 @@ returns : tie.Need-returns
 returns c =
     let a = c .before .before .before .before .before .before .before .args in
     let request-verdict = c .before .before .before .request-verdict in
-    read-refused (a .pool) (a .page) (a .frames .now) (a .store .now) (a .out .now) (request-verdict .result) (request-verdict .ensures) _
-    (c .before .verdict .given .1)
+    call-refused (a .pool) (a .frames .now) (a .store .now) (read (a .page) (a .out .now)) (request-verdict .result)
+    (request-verdict .ensures ∙ read-verdict (a .pool) (a .frames .now) (a .store .now) (a .page) (a .out .now)) _ (c .before .verdict .given .1)
 
 same-length : tie.Need-same-length
 same-length c = search needs
@@ -48,8 +49,8 @@ returns-2 c =
     let a = c .before .before .before .before .before .before .before .before .before .before .before .before .before .before .before .before .args in
     let request-verdict = c .before .before .before .before .before .before .before .before .before .before .before .before .request-verdict in
     let enum-told = c .before .before .before .before .before .before .before .before .before .before .enum-told in
-    serve-read .ensures ∙ read-fine (a .pool) (a .page) (a .frames .now) (a .store .now) (a .out .now) (request-verdict .result)
-    (request-verdict .ensures) (enum-told .given .1)
+    serve-read .ensures ∙ call-served (a .pool) (a .frames .now) (a .store .now) (read (a .page) (a .out .now)) (request-verdict .result)
+    (request-verdict .ensures ∙ read-verdict (a .pool) (a .frames .now) (a .store .now) (a .page) (a .out .now)) (enum-told .given .1)
 
 pub read-page-spec : {M : Type 1} → statement M
 read-page-spec =

@@ -4,9 +4,10 @@ use lib.ListN.{length}
 use borrow.Author.Needs.{needs}
 use Rattle.model.proofs.Refusals.{stretch-fits as stretch-fits-means}
 use Rattle.model.specs.Refusals.{requestVerdict}
-use Rattle.pool.specs.Pool.{stateOf}
+use Rattle.model.specs.Run.{write}
+use Rattle.pool.specs.Pool.{numbersIn}
 use Rattle.pool.specs.Test.{soundB}
-use Rattle.casa.proofs.Calls.{request-allowed, write-refused, write-fine}
+use Rattle.casa.proofs.Calls.{request-allowed, call-refused, call-served, write-verdict}
 use Rattle.casa.proofs.write_page.Statement.{statement}
 use Rattle.casa.proofs.write_page.Tie as tie
 
@@ -36,8 +37,9 @@ returns c =
     let a = c .before .before .before .before .before .before .before .before .args in
     let request-verdict = c .before .before .before .request-verdict in
     let stretch-fits = c .before .before .before .before .stretch-fits in
-    write-refused (a .pool) (a .page) (a .start) (a .bytes .now) (a .frames .now) (a .store .now) (request-verdict .result)
-    (request-verdict .ensures ∙ ap (requestVerdict (soundB (a .pool)) (stateOf (a .pool)) (length (a .frames .now)) (length (a .store .now)) (a .page)) (stretch-fits .ensures))
+    call-refused (a .pool) (a .frames .now) (a .store .now) (write (a .page) (a .start) (a .bytes .now)) (request-verdict .result)
+    (request-verdict .ensures ∙ ap (requestVerdict (soundB (a .pool)) (numbersIn (a .pool)) (a .pool .served) (length (a .frames .now)) (length (a .store .now)) (a .page)) (stretch-fits .ensures)
+    ∙ write-verdict (a .pool) (a .frames .now) (a .store .now) (a .page) (a .start) (a .bytes .now))
     _ (c .before .verdict .given .1)
 
 same-length : tie.Need-same-length
@@ -53,8 +55,9 @@ returns-2 c =
     let request-verdict = c .before .before .before .before .before .before .before .before .before .request-verdict in
     let stretch-fits = c .before .before .before .before .before .before .before .before .before .before .stretch-fits in
     let enum-told = c .before .before .before .before .before .before .before .enum-told in
-    serve-write .ensures ∙ write-fine (a .pool) (a .page) (a .start) (a .bytes .now) (a .frames .now) (a .store .now) (request-verdict .result)
-    (request-verdict .ensures ∙ ap (requestVerdict (soundB (a .pool)) (stateOf (a .pool)) (length (a .frames .now)) (length (a .store .now)) (a .page)) (stretch-fits .ensures))
+    serve-write .ensures ∙ call-served (a .pool) (a .frames .now) (a .store .now) (write (a .page) (a .start) (a .bytes .now)) (request-verdict .result)
+    (request-verdict .ensures ∙ ap (requestVerdict (soundB (a .pool)) (numbersIn (a .pool)) (a .pool .served) (length (a .frames .now)) (length (a .store .now)) (a .page)) (stretch-fits .ensures)
+    ∙ write-verdict (a .pool) (a .frames .now) (a .store .now) (a .page) (a .start) (a .bytes .now))
     (enum-told .given .1)
 
 pub write-page-spec : {M : Type 1} → statement M

@@ -2,7 +2,7 @@
 -- flush's. Assumes nothing.
 use mathlib.Core.Path.{_∙_}
 use borrow.Author.Needs.{needs}
-use Rattle.pool.specs.Pool.{stateOf}
+use Rattle.pool.specs.Pool.{numbersIn}
 use Rattle.pool.specs.Test.{soundB}
 use Rattle.casa.proofs.Verdicts.{flush-as-request}
 use Rattle.casa.proofs.Calls.{sound-is}
@@ -16,7 +16,7 @@ returns : tie.Need-returns
 returns c =
     let a = c .before .args in
     c .request-verdict .ensures
-    ∙ flush-as-request (soundB (a .pool)) (stateOf (a .pool)) (a .m) (a .n) (λ e. sound-is (a .pool) e .good .limits .N-low)
+    ∙ flush-as-request (soundB (a .pool)) (numbersIn (a .pool)) (a .pool .served) (a .m) (a .n) (λ e. sound-is (a .pool) e .good .limits .N-low)
 
 pub flush-verdict-spec : {M : Type 1} → statement M
 flush-verdict-spec = tie.close (tie.spec request-verdict-requires returns)

@@ -3,7 +3,7 @@
 use mathlib.Core.Path.{sym, _∙_}
 use borrow.Author.Needs.{needs}
 use borrow.Author.Tests.{not-true, not-false}
-use Rattle.pool.specs.Pool.{stateOf}
+use Rattle.pool.specs.Pool.{numbersIn}
 use Rattle.pool.specs.Test.{soundB}
 use Rattle.casa.proofs.Verdicts.{request-broken, request-memory, request-page, request-bytes, request-spent, request-fine}
 use Rattle.casa.proofs.Calls.{sound-is}
@@ -16,7 +16,7 @@ sound-requires c κs = search needs
 returns : tie.Need-returns
 returns c =
     let a = c .before .before .args in
-    request-broken (soundB (a .pool)) (stateOf (a .pool)) (a .m) (a .n) (a .page) (a .fit)
+    request-broken (soundB (a .pool)) (numbersIn (a .pool)) (a .pool .served) (a .m) (a .n) (a .page) (a .fit)
     (sym (c .before .sound .ensures) ∙ not-true _ (c .if1 .taken))
 
 sizes-match-requires : tie.Need-sizes-match-requires
@@ -28,7 +28,7 @@ returns-2 : tie.Need-returns-2
 returns-2 c =
     let a = c .before .before .before .before .args in
     let sound = c .before .before .before .sound in
-    request-memory (soundB (a .pool)) (stateOf (a .pool)) (a .m) (a .n) (a .page) (a .fit)
+    request-memory (soundB (a .pool)) (numbersIn (a .pool)) (a .pool .served) (a .m) (a .n) (a .page) (a .fit)
     (sym (sound .ensures) ∙ not-false _ (c .before .before .if1 .left)) (sym (c .before .sizes-match .ensures) ∙ not-true _ (c .if2 .taken))
 
 returns-3 : tie.Need-returns-3
@@ -37,7 +37,7 @@ returns-3 c =
     let sound = c .before .before .before .before .before .sound in
     let if1 = c .before .before .before .before .if1 in
     let sizes-match = c .before .before .before .sizes-match in
-    request-page (soundB (a .pool)) (stateOf (a .pool)) (a .m) (a .n) (a .page) (a .fit) (sym (sound .ensures) ∙ not-false _ (if1 .left))
+    request-page (soundB (a .pool)) (numbersIn (a .pool)) (a .pool .served) (a .m) (a .n) (a .page) (a .fit) (sym (sound .ensures) ∙ not-false _ (if1 .left))
     (sym (sizes-match .ensures) ∙ not-false _ (c .before .before .if2 .left)) (c .if3 .taken)
 
 returns-4 : tie.Need-returns-4
@@ -47,7 +47,7 @@ returns-4 c =
     let if1 = c .before .before .before .before .before .if1 in
     let sizes-match = c .before .before .before .before .sizes-match in
     let if2 = c .before .before .before .if2 in
-    request-bytes (soundB (a .pool)) (stateOf (a .pool)) (a .m) (a .n) (a .page) (a .fit) (sym (sound .ensures) ∙ not-false _ (if1 .left))
+    request-bytes (soundB (a .pool)) (numbersIn (a .pool)) (a .pool .served) (a .m) (a .n) (a .page) (a .fit) (sym (sound .ensures) ∙ not-false _ (if1 .left))
     (sym (sizes-match .ensures) ∙ not-false _ (if2 .left)) (c .before .if3 .left) (not-true _ (c .if4 .taken))
 
 returns-5 : tie.Need-returns-5
@@ -58,7 +58,7 @@ returns-5 c =
     let sizes-match = c .before .before .before .before .before .before .sizes-match in
     let if2 = c .before .before .before .before .before .if2 in
     let if3 = c .before .before .before .if3 in
-    request-spent (soundB (a .pool)) (stateOf (a .pool)) (a .m) (a .n) (a .page) (a .fit) (sym (sound .ensures) ∙ not-false _ (if1 .left))
+    request-spent (soundB (a .pool)) (numbersIn (a .pool)) (a .pool .served) (a .m) (a .n) (a .page) (a .fit) (sym (sound .ensures) ∙ not-false _ (if1 .left))
     (sym (sizes-match .ensures) ∙ not-false _ (if2 .left)) (if3 .left) (not-false _ (c .before .before .if4 .left)) (c .if5 .taken)
 
 returns-6 : tie.Need-returns-6
@@ -69,7 +69,7 @@ returns-6 c =
     let sizes-match = c .before .before .before .before .before .before .sizes-match in
     let if2 = c .before .before .before .before .before .if2 in
     let if3 = c .before .before .before .if3 in
-    request-fine (soundB (a .pool)) (stateOf (a .pool)) (a .m) (a .n) (a .page) (a .fit) (sym (sound .ensures) ∙ not-false _ (if1 .left))
+    request-fine (soundB (a .pool)) (numbersIn (a .pool)) (a .pool .served) (a .m) (a .n) (a .page) (a .fit) (sym (sound .ensures) ∙ not-false _ (if1 .left))
     (sym (sizes-match .ensures) ∙ not-false _ (if2 .left)) (if3 .left) (not-false _ (c .before .before .if4 .left)) (c .if5 .left)
 
 pub request-verdict-spec : {M : Type 1} → statement M

@@ -39,7 +39,7 @@ returns : tie.Need-returns
 returns c =
     let step = c .before .before .before .before .before .before .before .before .before .before .before .before .before .read in
     let a = c .before .before .before .before .before .before .before .before .before .before .before .before .before .before .before .before .before .args in
-    read-served (a .pool) (a .page) (a .frames .now) (a .store .now) _ _ (step .result) _ (step .ensures) (c .before .before .before .before .before .before .before .before .before .bring .ensures)
+    read-served (a .pool) (a .page) (a .frames .now) (a .store .now) _ _ (step .result) (a .out .now) _ (step .ensures) (c .before .before .before .before .before .before .before .before .before .bring .ensures)
     (c .before .before .copy-out .ensures)
 
 pub serve-read-spec : {M : Type 1} → statement M
