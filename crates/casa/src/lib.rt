@@ -15,13 +15,10 @@ use model::Costing;
 use model::Flushing;
 use model::Opening;
 use model::Refusal;
+use model::USUAL_READ;
+use model::USUAL_WRITE;
 use model::Verdict;
 use pool::Pool;
-
-// The usual drive, which opening with both costs 0 means.
-const USUAL_READ: u64 = 1;
-
-const USUAL_WRITE: u64 = 4;
 
 pub struct Opened {
     pub pool: Pool,
@@ -49,7 +46,7 @@ fn open_with(
 ) -> Opened
     ensures { λ r. ⌜ openLeft r ≡ openBy (numbers frames «page_bytes» pages «read_cost» «write_cost») ⌝ }
 {
-    if !pool::in_limits(frames, page_bytes, pages, read_cost, write_cost) {
+    if !model::in_limits(frames, page_bytes, pages, read_cost, write_cost) {
         let none = fresh::fresh(0, 0, 0, 0, 0);
         return Opened {
             pool: none,

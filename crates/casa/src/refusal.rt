@@ -3,12 +3,10 @@ ghost use mathlib.Core.Path.{_≡_};
 ghost use Rattle.model.specs.Refusals.{requestVerdict, flushVerdict, stretchFits};
 ghost use Rattle.pool.specs.Pool.{numbersIn};
 ghost use Rattle.pool.specs.Test.{soundB};
+use model::MOST_SERVED;
 use model::Refusal;
 use model::Verdict;
 use pool::Pool;
-
-// So many calls are served in one opening.
-const MOST_SERVED: u64 = 1000000000;
 
 // Of a read or a write: `m` bytes of frame memory and `n` of store are lent, and `fit` says whether the caller's own bytes fit.
 pub fn request_verdict(pool: Pool, m: usize, n: usize, page: usize, fit: bool) -> Verdict

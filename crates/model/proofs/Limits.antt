@@ -1,9 +1,9 @@
 -- The test on the numbers says what the inequalities say; and which numbers are meant by those that are given. Assumes nothing.
-use mathlib.Core.Path.{_≡_, refl}
-use mathlib.Core.Bool.{Bool, true, false, _&&_}
+use mathlib.Core.Path.{_≡_, refl, sym, _∙_}
+use mathlib.Core.Bool.{Bool, true, false, _&&_, false≢true}
 use Prim.Native.Nat.{ℕ, _≤_}
 use native.Mathlib.Omega.{arith}
-use lib.Dec.{eqb}
+use lib.Dec.{eqb, leb}
 use borrow.Author.Tests.{leb-true, le-leb, eqb-true, eq-eqb}
 use Rattle.model.specs.Numbers.{Numbers, if-else, between, inLimits, Limits, withUsualDrive, meant}
 use Rattle.model.proofs.Refusals.{and-both}
@@ -49,6 +49,22 @@ hold-limits n l =
     (both-and (means-between 16 (n .P) 4096 (l .P-low) (l .P-high))
     (both-and (means-between 1 (n .N) 65536 (l .N-low) (l .N-high))
     (both-and (means-between 1 (n .r) 1000 (l .r-low) (l .r-high)) (means-between 1 (n .w) 1000 (l .w-low) (l .w-high)))))
+
+-- ---- the answers of a test that asks one limit after the other: a no where one is passed, and behind the others the last
+
+pub limits-refused : (n : Numbers) → (Limits n → ⊥) → false ≡ inLimits n
+limits-refused n wrong = go (inLimits n) refl
+  where
+    go : (t : Bool) → inLimits n ≡ t → false ≡ t
+    go true e = absurd (wrong (limits-hold n e))
+    go false e = refl
+
+pub limits-last : (n : Numbers) → (n .w ≤ 1000 → Limits n) → leb (n .w) 1000 ≡ inLimits n
+limits-last n rest = go (leb (n .w) 1000) refl
+  where
+    go : (t : Bool) → leb (n .w) 1000 ≡ t → t ≡ inLimits n
+    go true e = sym (hold-limits n (rest (leb-true (n .w) 1000 e)))
+    go false e = limits-refused n (λ l. false≢true (sym e ∙ le-leb (n .w) 1000 (l .w-high)))
 
 -- ---- the numbers that are meant
 

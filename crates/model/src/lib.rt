@@ -1,7 +1,16 @@
-// The scope's words, and the numbers of its refusals for programs that print them. No other function stands here: specs/ says what is right, and proofs/ shows
-// what follows from it.
+// The scope's words, its limits, and the numbers of its refusals for programs that print them. No other function stands here: specs/ says what is right, and proofs/
+// shows what follows from it.
 ghost use mathlib.Core.Path.{_≡_};
+ghost use Rattle.model.specs.Numbers.{inLimits};
 ghost use Rattle.model.specs.Words.{numberOf};
+
+// The usual drive, which opening with both costs 0 means.
+pub const USUAL_READ: u64 = 1;
+
+pub const USUAL_WRITE: u64 = 4;
+
+// So many calls are served in one opening.
+pub const MOST_SERVED: u64 = 1000000000;
 
 // What a request asks of a page.
 pub enum Op {
@@ -91,4 +100,44 @@ pub fn number_of(why: Refusal) -> u64
         Refusal::LongFile => 9,
         Refusal::LargePool => 10,
     }
+}
+
+// Whether the numbers of a pool are in their limits.
+pub fn in_limits(
+    frames: usize,
+    page_bytes: usize,
+    pages: usize,
+    read_cost: u64,
+    write_cost: u64,
+) -> bool
+    ensures { λ r. ⌜ r ≡ inLimits (record { b = frames; P = «page_bytes»; N = pages; r = «read_cost»; w = «write_cost» }) ⌝ }
+{
+    if frames < 1 {
+        return false;
+    }
+    if 64 < frames {
+        return false;
+    }
+    if page_bytes < 16 {
+        return false;
+    }
+    if 4096 < page_bytes {
+        return false;
+    }
+    if pages < 1 {
+        return false;
+    }
+    if 65536 < pages {
+        return false;
+    }
+    if read_cost < 1 {
+        return false;
+    }
+    if 1000 < read_cost {
+        return false;
+    }
+    if write_cost < 1 {
+        return false;
+    }
+    write_cost <= 1000
 }

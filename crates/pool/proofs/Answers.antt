@@ -1,5 +1,5 @@
 -- The answers of the functions of the test: a no where something is wrong, and behind the tests that have passed the answer of the last one.
---     limits-refused, limits-last, counts-last, lengths-last, tails-last    numbers, counts, lengths, places without meaning
+--     counts-last, lengths-last, tails-last    counts, lengths, places without meaning
 --     frames-decides, pages-last    frames and pages
 --     sound-refused, sound-last, sound-full    the whole
 -- Assumes nothing.
@@ -25,15 +25,6 @@ use Rattle.pool.proofs.Frames.{frames-exact}
 use Rattle.pool.proofs.Pages.{pages-test, test-pages}
 
 -- ---- numbers
-
-pub limits-refused : (n : Numbers) → (Limits n → ⊥) → false ≡ inLimits n
-limits-refused n wrong = decides-same (Limits n) false (inLimits n) wrong (limits-decides n (inLimits n) refl)
-
-pub limits-last : (n : Numbers) → (n .w ≤ 1000 → Limits n) → leb (n .w) 1000 ≡ inLimits n
-limits-last n rest =
-    decides-same (Limits n) (leb (n .w) 1000) (inLimits n)
-    (decides-of (leb (n .w) 1000) (exact-iff rest (λ l. l .w-high) (exact-leb (n .w) 1000)))
-    (limits-decides n (inLimits n) refl)
 
 pub counts-last : (b target served nR nW : ℕ) → target ≤ b * unit → served ≤ mostServed → nR ≤ served
     → Decides (leb nW (b * served)) (CountsRight b target served nR nW)

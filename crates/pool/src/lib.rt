@@ -2,7 +2,6 @@
 ghost use mathlib.Core.Path.{_≡_};
 ghost use Prim.Native.Nat.{_+_, _≤_};
 ghost use Rattle.order.specs.Places.{places};
-ghost use Rattle.model.specs.Numbers.{inLimits};
 ghost use Rattle.pool.specs.Test.{soundB};
 ghost use Rattle.pool.specs.Parts.{Decides, CountsRight, hasBefore};
 
@@ -11,6 +10,7 @@ mod full_test;
 mod page_test;
 mod tails;
 
+use model::MOST_SERVED;
 use order::PLACES;
 
 // Physical reads and physical writes are counted apart, and meet only in the total cost.
@@ -39,46 +39,6 @@ pub struct Pool {
 
 // ---- numbers
 
-// Whether the numbers of a pool are in their limits.
-pub fn in_limits(
-    frames: usize,
-    page_bytes: usize,
-    pages: usize,
-    read_cost: u64,
-    write_cost: u64,
-) -> bool
-    ensures { λ r. ⌜ r ≡ inLimits (record { b = frames; P = «page_bytes»; N = pages; r = «read_cost»; w = «write_cost» }) ⌝ }
-{
-    if frames < 1 {
-        return false;
-    }
-    if 64 < frames {
-        return false;
-    }
-    if page_bytes < 16 {
-        return false;
-    }
-    if 4096 < page_bytes {
-        return false;
-    }
-    if pages < 1 {
-        return false;
-    }
-    if 65536 < pages {
-        return false;
-    }
-    if read_cost < 1 {
-        return false;
-    }
-    if 1000 < read_cost {
-        return false;
-    }
-    if write_cost < 1 {
-        return false;
-    }
-    write_cost <= 1000
-}
-
 // Whether target and counts are in their limits.
 fn counts_right(frames: u64, target: u64, served: u64, reads: u64, writes: u64) -> bool
     requires { ⌜ frames ≤ 64 ⌝ }
@@ -87,7 +47,7 @@ fn counts_right(frames: u64, target: u64, served: u64, reads: u64, writes: u64) 
     if frames * 65536 < target {
         return false;
     }
-    if 1000000000 < served {
+    if MOST_SERVED < served {
         return false;
     }
     if served < reads {
@@ -137,7 +97,7 @@ pub fn sound(pool: Pool) -> bool
     let en = pool.empty_len;
     let cn = pool.clean_len;
     let dn = pool.dirty_len;
-    if !in_limits(
+    if !model::in_limits(
         frames,
         pool.page_bytes,
         pages,

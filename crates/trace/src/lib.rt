@@ -9,6 +9,8 @@ ghost use Rattle.model.specs.Numbers.{inLimits, meant};
 ghost use Rattle.trace.specs.Format.{numberAt, trailerAt, numbersIn, pointsBack, judged, headerOf, recordOf, recordIn, recordAt, firstBad, checkedOf, placeAfter, firstPlace};
 ghost use Rattle.trace.specs.Words.{checkedSays, nextSays};
 use model::Refusal;
+use model::USUAL_READ;
+use model::USUAL_WRITE;
 
 // The trailer, raw as in the file.
 pub struct Trailer {
@@ -94,10 +96,16 @@ fn numbers_allowed(trailer: Trailer) -> bool
 {
     if trailer.read_cost == 0 {
         if trailer.write_cost == 0 {
-            return pool::in_limits(trailer.frames, trailer.page_bytes, trailer.pages, 1, 4);
+            return model::in_limits(
+                trailer.frames,
+                trailer.page_bytes,
+                trailer.pages,
+                USUAL_READ,
+                USUAL_WRITE,
+            );
         }
     }
-    pool::in_limits(
+    model::in_limits(
         trailer.frames,
         trailer.page_bytes,
         trailer.pages,

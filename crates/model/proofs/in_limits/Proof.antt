@@ -1,10 +1,10 @@
--- `pool::in_limits` meets its contract. Each answer no names a limit that is passed, and the last test is the one limit that is left.
+-- `model::in_limits` meets its contract. Each answer no names a limit that is passed, and the last test is the one limit that is left.
 -- Assumes nothing.
 use native.Mathlib.Omega.{arith}
 use borrow.Author.Needs.{needs}
-use Rattle.pool.proofs.Answers.{limits-refused, limits-last}
-use Rattle.pool.proofs.in_limits.Statement.{statement}
-use Rattle.pool.proofs.in_limits.Tie as tie
+use Rattle.model.proofs.Limits.{limits-refused, limits-last}
+use Rattle.model.proofs.in_limits.Statement.{statement}
+use Rattle.model.proofs.in_limits.Tie as tie
 
 returns : tie.Need-returns
 returns c = limits-refused _ (λ l. omega arith)
