@@ -1,7 +1,8 @@
 #!/usr/bin/env python3
 """Writes the proofs of crate `lent`: crates/lent/proofs/FUNCTION/Proof.antt for each function of the tables THIN and HOLDING.
 
-    python3 tools/walks.py        at the repository's root
+    python3 tools/walks.py            at the repository's root
+    python3 tools/walks.py --check    writes nothing, and fails if a file there is not what it would write
 
 The borrow checker does not cover a function that takes a `&mut Pool` or lends one. Its proof is a walk: it goes through the function's MIR statement
 by statement, by the rules of the logic's kit. The rules name an entry of the walk's context (a local's cell, a token, what a pool owns) by its place,
@@ -18,6 +19,7 @@ So a new parameter is a word in a table, a new function of these shapes is a lin
 
 import re
 import string
+import sys
 from dataclasses import dataclass
 from pathlib import Path
 
@@ -565,8 +567,12 @@ def holding_file(call):
 def main():
     for call, file in [(call, thin_file) for call in THIN] + [(call, holding_file) for call in HOLDING]:
         path = Path('crates/lent/proofs', call.function, 'Proof.antt')
-        path.parent.mkdir(exist_ok=True)
-        path.write_text(file(call))
+        if '--check' in sys.argv:
+            if path.read_text() != file(call):
+                sys.exit(f'{path} is not what tools/walks.py writes')
+        else:
+            path.parent.mkdir(exist_ok=True)
+            path.write_text(file(call))
 
 
 main()
