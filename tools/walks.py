@@ -1,5 +1,5 @@
 #!/usr/bin/env python3
-"""Writes the proofs of crate `lent`: crates/lent/proofs/FUNCTION/Proof.antt for each function of the tables THIN and HOLDING.
+"""Writes the proofs of crate `lent`: crates/lent/proofs/FUNCTION/Proof.antt for each function of the tables THIN and OWNING.
 
     python3 tools/walks.py            at the repository's root
     python3 tools/walks.py --check    writes nothing, and fails if a file there is not what it would write
@@ -10,7 +10,7 @@ and many of them change the places of others. Here the context is a list of name
 
 It takes for granted, and the checker refuses the written proof otherwise, that
   - a thin function is `let done = CALLEE(*pool, OTHERS); *pool = done.pool; done.answer`, with `pool: &mut Pool` for its first parameter;
-  - a holding function is `let mut own = pool; let answer = CALLEE(&mut own, OTHERS); STRUCT { pool: own, answer }`, with `pool: Pool` for its first;
+  - an owning function is `let mut own = pool; let answer = CALLEE(&mut own, OTHERS); STRUCT { pool: own, answer }`, with `pool: Pool` for its first;
   - OTHERS are numbers and slices of bytes, each slice at a lifetime of its own, and are passed on as they come;
   - STRUCT has the fields `pool` and `answer`, the latter of an enum type, and no function has a `requires`;
   - `ensures` is one fact, and the callee's `ensures` states it too.
@@ -40,8 +40,8 @@ THIN = [
     Call('flush_in', 'casa', 'flush', 'Flushed', 'Flushing', 'frames:& store:&mut'),
 ]
 
-HOLDING = [
-    Call('read_page_held', 'lent', 'read_page_in', 'Served', 'Answer', 'page:usize frames:&mut store:&mut out:&mut'),
+OWNING = [
+    Call('read_page_own', 'lent', 'read_page_in', 'Served', 'Answer', 'page:usize frames:&mut store:&mut out:&mut'),
 ]
 
 WIDTH = 150
@@ -163,10 +163,10 @@ class Walk:
     def sets(self, local, value, typed):
         self.say(f'sets ! {self.at(local)} ({value})', f'refl {typed} $')
 
-    def enter(self, held, addressed, pool_typed):
-        """The locals are allocated, and the parameters stored. `held` is what is held beside what the parameters own; of the locals that are
+    def enter(self, beside, addressed, pool_typed):
+        """The locals are allocated, and the parameters stored. `beside` is what is had beside what the parameters own; of the locals that are
         `addressed` the walk names the addresses."""
-        self.say(f'qed W ({held} ∷ ‵ (owns (rows κs) a vals) ∷ []) ∵', 'enter ! C Λ code.function (flat (rows κs) vals) _ $')
+        self.say(f'qed W ({beside} ∷ ‵ (owns (rows κs) a vals) ∷ []) ∵', 'enter ! C Λ code.function (flat (rows κs) vals) _ $')
         self.say(*(f'alloc1 ! (λ {f"{local}-at" if local in addressed else "_"}.' for local in self.locals), 'alloc0 ! $', 'params1 ! $')
         parameters = [('pool', pool_typed)] + [(other.name, other.typed()) for other in self.others]
         self.say(*(f'pass1 ! (init ! {self.at(local)} refl {typed}) $' for local, typed in parameters), 'pass0 ! $')
@@ -237,7 +237,7 @@ def thin_walk(others):
     return walk.text
 
 
-def holding_walk(others):
+def owning_walk(others):
     of = 'ν own-at γ'
     locals = ['result', 'pool', *(other.name for other in others), 'own', 'answer', 'reference', *lent_on(others), 'copy']
     walk = Walk(others, locals, ['tokens', 'parameters'])
@@ -277,7 +277,7 @@ other parameters, which are given up for good. The pool that comes back is store
 pool at exit, the answer and every lent byte are those of `@crate::@callee`, and what it promises of them is what is to be shown.
 A walk of the MIR over Thin.antt, written by tools/walks.py. Assumes nothing.'''
 
-HOLDING_HEAD = '''\
+OWNING_HEAD = '''\
 `lent::@function` meets its contract. A local holds the pool, and is lent to `@crate::@callee` for a lifetime that is made for the call,
 together with the other parameters, which are given up for good. Once that lifetime is over the local is back at its last value, and is returned
 with the answer. So what `@crate::@callee` promises of the pool at exit, the answer and every lent byte is what is to be shown.
@@ -390,7 +390,7 @@ answer-is r w is = LL.owed S.the-type S′.the-laws r (w ∷ []) is .1 .0
       (tt, all-fit κs others (f.ended .kept .1) (a .1) (zs .1)))
 ''' + END
 
-HOLDING_FILE = '''
+OWNING_FILE = '''
 -- the parameters after the pool, and all
 abbrev others : List (Slot @n)
 others = @slots
@@ -556,16 +556,16 @@ def thin_file(call):
     )
 
 
-def holding_file(call):
+def owning_file(call):
     others, n = others_of(call, 0)
     return file_of(
-        call, HOLDING_HEAD, HOLDING_FILE, others, 'pool-vals', 'pool-tells', n=n, m=n + 1, walk=holding_walk(others),
+        call, OWNING_HEAD, OWNING_FILE, others, 'pool-vals', 'pool-tells', n=n, m=n + 1, walk=owning_walk(others),
         go=f'all-go 𝓤 H A W {n} params (f.ended .kept)',
     )
 
 
 def main():
-    for call, file in [(call, thin_file) for call in THIN] + [(call, holding_file) for call in HOLDING]:
+    for call, file in [(call, thin_file) for call in THIN] + [(call, owning_file) for call in OWNING]:
         path = Path('crates/lent/proofs', call.function, 'Proof.antt')
         if '--check' in sys.argv:
             if path.read_text() != file(call):

@@ -1,5 +1,5 @@
--- CASA's pools are a lawful policy, with `Sound` for a good state: a sound pool holds a good state, the pool made of one is sound and holds it, and CASA's states are
--- framed. So a pool that was opened and used through its calls is sound, and model's theorem on last written bytes speaks of it.
+-- CASA's pools are a lawful policy, with `Sound` for a good state: a sound pool holds a good state, the pool made of one is sound and holds it, and CASA's
+-- states are framed. So a pool that was opened and used through its calls is sound, and model's theorem on last written bytes speaks of it.
 -- Assumes nothing.
 use mathlib.Core.Path.{_≡_, sym, subst}
 use Rattle.model.specs.Numbers.{Numbers, Limits, inLimits, meant}
@@ -7,7 +7,7 @@ use Rattle.model.specs.Request.{states}
 use Rattle.model.specs.Refusals.{openRows, openVerdict}
 use Rattle.model.specs.declared.Verdict.{Verdict}
 use Rattle.model.specs.declared.Verdict.the-variants.{Fine}
-use Rattle.model.proofs.Limits.{limits-hold}
+use Rattle.model.proofs.Limits.{inLimits-limits}
 use Rattle.model.proofs.Refusals.{not-false, first-clear}
 use Rattle.model.proofs.Good.{opened-good, opened-blank}
 use Rattle.model.proofs.LastWritten.{Lawful}
@@ -33,7 +33,7 @@ pools-lawful = framed-lawful pools pools-framed
 module _ (n : Numbers) (accepted : openVerdict n ≡ Fine) where
   pub open-limits : Limits (meant n)
   unfolding openVerdict
-  open-limits = limits-hold (meant n) (not-false (inLimits (meant n)) (first-clear (openRows n) accepted .0))
+  open-limits = inLimits-limits (meant n) (not-false (inLimits (meant n)) (first-clear (openRows n) accepted .0))
 
   pub open-sound : Sound (openAfter n .pool)
   unfolding openAfter

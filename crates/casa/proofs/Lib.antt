@@ -1,6 +1,4 @@
--- The laws of `casa`: Verdicts, Brought, Opening and Calls for its own functions; Lawful and Settled for its callers. Assumes nothing.
-pub mod Verdicts
-pub mod Brought
+-- The laws of `casa`: Opening and Calls for its own functions; Lawful and Settled for its callers. Assumes nothing.
 pub mod Opening
 pub mod Calls
 pub mod Lawful

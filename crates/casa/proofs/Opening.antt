@@ -1,77 +1,21 @@
--- A pool made anew is the one that holds the opened state; and which way opening goes. Assumes nothing.
-use mathlib.Core.Path.{_≡_, sym, ap, _∙_}
+-- Which way opening goes. Assumes nothing.
+use mathlib.Core.Path.{_≡_}
 use mathlib.Core.Bool.{true, false, _&&_}
 use mathlib.Core.Logic.{_≢_}
-use Prim.Native.Nat.{ℕ, _+_, _-_, _≤_}
-use native.Mathlib.Omega.{arith}
-use mathlib.Core.List.{List, []}
+use Prim.Native.Nat.{ℕ}
 use lib.Dec.{eqb}
-use lib.ListN.{length, replicate, length-replicate, replicate-append-replicate}
 use borrow.Author.Tests.{eq-eqb, ne-eqb}
-use Rattle.order.specs.Lists.{downFrom}
-use Rattle.order.specs.Places.{places, pad, Holds}
-use Rattle.model.specs.Numbers.{Numbers, inLimits, meant}
+use Rattle.model.specs.Numbers.{Numbers, inLimits, meant, numbers}
 use Rattle.model.specs.State.{opened}
 use Rattle.model.specs.Refusals.{openVerdict}
 use Rattle.model.specs.declared.Refusal.the-variants.{OutOfLimits}
 use Rattle.model.specs.Words.{opened as saidOpened, refusalSays}
 use Rattle.pool.specs.Pool.{poolOf}
 use Rattle.pool.specs.declared.Pool.{Pool}
-use Rattle.casa.specs.Calls.{numbers, zeroPool, OpenLeft, openBy, openAfter}
+use Rattle.casa.specs.Calls.{zeroPool, OpenLeft, openBy, openAfter}
 
-abbrev zeros : ℕ → List ℕ
-zeros n = replicate n 0
-
--- zeros in their places are zeros in all places
-pad-zeros : (n : ℕ) → n ≤ places → zeros places ≡ pad (zeros n)
-pad-zeros n h =
-    let e : places ≡ n + (places - length (zeros n)) = omega (arith, length-replicate {A = ℕ} n 0) in
-    ap zeros e ∙ sym (replicate-append-replicate {A = ℕ} n (places - length (zeros n)) 0)
-
-pub fresh-is : (b P N r w : ℕ) (empty : List ℕ) → b ≤ places → Holds empty b (downFrom b)
-    → _≡_ {A = Pool}
-    (record {
-      frames = b;
-      «page_bytes» = P;
-      pages = N;
-      «read_cost» = r;
-      «write_cost» = w;
-      empty = empty;
-      «empty_len» = b;
-      clean = replicate places 0;
-      «clean_len» = 0;
-      dirty = replicate places 0;
-      «dirty_len» = 0;
-      page = replicate places 0;
-      target = 0;
-      served = 0;
-      reads = record { 0 = 0 };
-      writes = record { 0 = 0 };
-    })
-    (poolOf (opened (numbers b P N r w)))
-fresh-is b P N r w empty l h =
-    λ i. record {
-      frames = b;
-      «page_bytes» = P;
-      pages = N;
-      «read_cost» = r;
-      «write_cost» = w;
-      empty = h .is i;
-      «empty_len» = sym (h .len) i;
-      clean = replicate places 0;
-      «clean_len» = 0;
-      dirty = replicate places 0;
-      «dirty_len» = 0;
-      page = pad-zeros b l i;
-      target = 0;
-      served = 0;
-      reads = record { 0 = 0 };
-      writes = record { 0 = 0 };
-    }
-
--- ---- which way opening goes
-
-pub open-refused : (n : Numbers) (p : Pool) → inLimits n ≡ false → p ≡ zeroPool → _≡_ {A = OpenLeft} (record { pool = p; said = refusalSays OutOfLimits }) (openBy n)
+pub open-refused : (n : Numbers) (p : Pool) → inLimits n ≡ false → p ≡ zeroPool
+    → _≡_ {A = OpenLeft} (record { pool = p; said = refusalSays OutOfLimits }) (openBy n)
 unfolding openBy
 open-refused n p e z = rw (e, z)
 

@@ -1,6 +1,6 @@
 -- Each promise allows one result: two results of a call that meet it are equal, the returned struct and every lent byte. What an answer says leads back to
--- the answer, so nothing is lost by stating promises in the scope's words. The laws speak of any right result l, so each serves every call that returns its struct.
--- Assumes nothing.
+-- the answer, so nothing is lost by stating promises in the scope's words. The laws speak of any right result l, so each serves every call that returns its
+-- struct. Assumes nothing.
 use mathlib.Core.Path.{_≡_, sym, ap, _∙_}
 use mathlib.Core.List.{List}
 use Prim.Native.Nat.{ℕ}

@@ -1,28 +1,22 @@
--- CASA's pools as a policy, and what each public call leaves, for every input: the pool, what is said, and every lent byte. The promises state it, whole; what a read,
--- a write, a flush or a total leaves is said once for any policy, by model's `left`.
+-- CASA's pools as a policy, and what each public call leaves, for every input: the pool, what is said, and every lent byte. The promises state it, whole;
+-- what a read, a write, a flush or a total leaves is said once for any policy, by model's `left`.
 --     pools        CASA's pools as a policy
 --     after        what a call leaves of a pool, the frame memory and the store that it was lent
 --     servedLeft, flushedLeft, openLeft    what a call returned, with the lent bytes as it left them
 --     openAfter    what opening leaves
 -- Assumes nothing.
-use mathlib.Core.Path.{_≡_}
-use Prim.Native.Nat.{ℕ, _*_, _<_}
 use mathlib.Core.List.{List, [], _∷_}
+use Prim.Native.Nat.{ℕ}
 use lib.ListN.{replicate}
 use Rattle.order.specs.Places.{places}
-use Rattle.pages.specs.Pages.{InPages}
-use Rattle.model.specs.Numbers.{Numbers, meant, mostServed}
+use Rattle.model.specs.Numbers.{Numbers, meant}
 use Rattle.model.specs.Words.{Said, opened as saidOpened, refusalSays, answerSays, openingSays, flushingSays}
-use Rattle.model.specs.Target.{Costs}
 use Rattle.model.specs.Policy.{Policy, pooled}
 use Rattle.model.specs.State.{opened}
 use Rattle.model.specs.Request.{states}
 use Rattle.model.specs.Refusals.{outOfLimits, first, openVerdict}
-use Rattle.model.specs.Bytes.{Memory}
+use Rattle.model.specs.Bytes.{memory}
 use Rattle.model.specs.Run.{Call, World, Left, served, left}
-use Rattle.model.specs.declared.Victim.the-variants.{None, Clean, Dirty}
-use Rattle.model.specs.declared.Answer.{Answer}
-use Rattle.model.specs.declared.Answer.the-variants as answer
 use Rattle.model.specs.declared.Verdict.{Verdict}
 use Rattle.model.specs.declared.Verdict.the-variants.{Fine, Refused}
 use Rattle.pool.specs.Pool.{poolOf, stateOf}
@@ -37,9 +31,6 @@ use Rattle.casa.specs.declared.Flushed.{Flushed}
 -- refusal 2 is the test of soundness
 abbrev pub pools : Policy
 pools = pooled states Pool stateOf poolOf soundB
-
-abbrev pub memory : List ℕ → List ℕ → Memory
-memory frames store = record { frames = frames; store = store }
 
 abbrev pub worldOf : Pool → List ℕ → List ℕ → World Pool
 worldOf p frames store = record { state = p; memory = memory frames store }
@@ -60,9 +51,6 @@ abbrev pub flushedLeft : Flushed → List ℕ → List ℕ → Left Pool
 flushedLeft r frames store = record { state = r .pool; said = flushingSays (r .answer); memory = memory frames store; out = [] }
 
 -- ---- open
-
-abbrev pub numbers : ℕ → ℕ → ℕ → ℕ → ℕ → Numbers
-numbers b P N r w = record { b = b; P = P; N = N; r = r; w = w }
 
 -- "A refused open returns the pool of all zeros, which is broken."
 abbrev pub zeroPool : Pool
@@ -103,23 +91,3 @@ openBy n = openIf (first (outOfLimits n ∷ [])) n
 
 unfoldable pub openAfter : Numbers → OpenLeft
 openAfter n = openIf (openVerdict n) (meant n)
-
--- ---- what a call that is served may count on: m bytes of frame memory, n of store, the page, and a call more
-
--- the costs in force
-abbrev pub costsIn : Pool → Costs
-costsIn p = record { r = p .«read_cost»; w = p .«write_cost» }
-
-pub record Lent (p : Pool) (m n page : ℕ) : Type 0 where
-  pub frames : m ≡ p .frames * p .«page_bytes»
-  pub store : n ≡ p .pages * p .«page_bytes»
-  pub inside : page < p .pages
-  pub more : p .served < mostServed
-
--- a dirty victim's page lies within n bytes of store
-abbrev pub AnswerIn : ℕ → Answer → ℕ → Type 0
-AnswerIn P (answer.Refused x) n = Unit {0}
-AnswerIn P answer.Hit n = Unit {0}
-AnswerIn P (answer.Fault None) n = Unit {0}
-AnswerIn P (answer.Fault (Clean q)) n = Unit {0}
-AnswerIn P (answer.Fault (Dirty q)) n = InPages P q n

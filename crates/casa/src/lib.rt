@@ -4,11 +4,10 @@ ghost use mathlib.Core.Path.{_≡_};
 ghost use mathlib.Core.List.{[]};
 ghost use Rattle.model.specs.Words.{costingSays};
 ghost use Rattle.model.specs.Run as run;
-ghost use Rattle.casa.specs.Calls.{numbers, openBy, openAfter, openLeft, after, servedLeft, flushedLeft};
+ghost use Rattle.model.specs.Numbers.{numbers};
+ghost use Rattle.casa.specs.Calls.{openBy, openAfter, openLeft, after, servedLeft, flushedLeft};
 
-mod fresh;
-mod refusal;
-mod serve;
+mod fine;
 
 use model::Answer;
 use model::Costing;
@@ -47,13 +46,13 @@ fn open_with(
     ensures { λ r. ⌜ openLeft r ≡ openBy (numbers frames «page_bytes» pages «read_cost» «write_cost») ⌝ }
 {
     if !model::in_limits(frames, page_bytes, pages, read_cost, write_cost) {
-        let none = fresh::fresh(0, 0, 0, 0, 0);
+        let none = pool::fresh(0, 0, 0, 0, 0);
         return Opened {
             pool: none,
             answer: Opening::Refused(Refusal::OutOfLimits),
         };
     }
-    let pool = fresh::fresh(frames, page_bytes, pages, read_cost, write_cost);
+    let pool = pool::fresh(frames, page_bytes, pages, read_cost, write_cost);
     Opened {
         pool,
         answer: Opening::Opened,
@@ -88,17 +87,29 @@ pub fn read_page(
     store: &mut [u8],
     out: &mut [u8],
 ) -> Served
-    ensures { λ r. ⌜ servedLeft r (now (frames .exit)) (now (store .exit)) (now (out .exit)) ≡ after pool (now (frames .entry)) (now (store .entry)) (run.read page (now (out .entry))) ⌝ }
+    ensures { λ r. ⌜ servedLeft r (now (frames .exit)) (now (store .exit)) (now (out .exit))
+        ≡ after pool (now (frames .entry)) (now (store .entry)) (run.read page (now (out .entry))) ⌝ }
 {
     let size = pool.page_bytes;
     let fit = out.len() == size;
-    let verdict = refusal::request_verdict(pool, frames.len(), store.len(), page, fit);
+    let sound = pool::sound(pool);
+    let verdict = serve::request_verdict(
+        sound,
+        pool.frames,
+        size,
+        pool.pages,
+        pool.served,
+        frames.len(),
+        store.len(),
+        page,
+        fit,
+    );
     match verdict {
         Verdict::Refused(why) => Served {
             pool,
             answer: Answer::Refused(why),
         },
-        Verdict::Fine => serve::serve_read(pool, page, frames, store, out),
+        Verdict::Fine => fine::read(pool, page, frames, store, out),
     }
 }
 
@@ -113,32 +124,57 @@ pub fn write_page(
     frames: &mut [u8],
     store: &mut [u8],
 ) -> Served
-    ensures { λ r. ⌜ servedLeft r (now (frames .exit)) (now (store .exit)) [] ≡ after pool (now (frames .entry)) (now (store .entry)) (run.write page start (now (bytes .entry))) ⌝ }
+    ensures { λ r. ⌜ servedLeft r (now (frames .exit)) (now (store .exit)) []
+        ≡ after pool (now (frames .entry)) (now (store .entry)) (run.write page start (now (bytes .entry))) ⌝ }
 {
-    let fit = refusal::stretch_fits(pool.page_bytes, start, bytes.len());
-    let verdict = refusal::request_verdict(pool, frames.len(), store.len(), page, fit);
+    let size = pool.page_bytes;
+    let fit = serve::stretch_fits(size, start, bytes.len());
+    let sound = pool::sound(pool);
+    let verdict = serve::request_verdict(
+        sound,
+        pool.frames,
+        size,
+        pool.pages,
+        pool.served,
+        frames.len(),
+        store.len(),
+        page,
+        fit,
+    );
     match verdict {
         Verdict::Refused(why) => Served {
             pool,
             answer: Answer::Refused(why),
         },
-        Verdict::Fine => serve::serve_write(pool, page, start, bytes, frames, store),
+        Verdict::Fine => fine::write(pool, page, start, bytes, frames, store),
     }
 }
 
 // ---- flush
 
-// Writes every changed page to the store. Refused: 2, 3, 6.
+// Writes every changed page to the store. Refused: 2, 3, 6. It names no page and no bytes: it is refused as a fitting request for page 0 is, which every
+// sound pool has.
 pub fn flush(pool: Pool, frames: &[u8], store: &mut [u8]) -> Flushed
     ensures { λ r. ⌜ flushedLeft r (now (frames .entry)) (now (store .exit)) ≡ after pool (now (frames .entry)) (now (store .entry)) run.flush ⌝ }
 {
-    let verdict = refusal::flush_verdict(pool, frames.len(), store.len());
+    let sound = pool::sound(pool);
+    let verdict = serve::request_verdict(
+        sound,
+        pool.frames,
+        pool.page_bytes,
+        pool.pages,
+        pool.served,
+        frames.len(),
+        store.len(),
+        0,
+        true,
+    );
     match verdict {
         Verdict::Refused(why) => Flushed {
             pool,
             answer: Flushing::Refused(why),
         },
-        Verdict::Fine => serve::serve_flush(pool, frames, store),
+        Verdict::Fine => fine::flush(pool, frames, store),
     }
 }
 

@@ -2,17 +2,17 @@
 -- what its promise states, whole (`casa`'s specs/Calls.antt, `model`'s specs/Run.antt); the other words stand in specs/World.antt here and in `model`'s specs.
 --
 -- Where the hypotheses come from: `openVerdict n ≡ Fine` says that the open was accepted; `verdictOf .. ≡ Fine` that this very call is served; that no frame is
--- empty, that the page is in no frame and that the clean list is further from the exact target are the third demand's own "whenever". Nothing is asked of a pool
--- that was opened and used through its calls: `used-sound` gives it.
+-- empty, that the page is in no frame and that the clean list is further from the exact target are the third demand's own "whenever". Nothing is asked of a
+-- pool that was opened and used through its calls: `used-sound` gives it.
 -- Assumes nothing.
 use mathlib.Core.Path.{_≡_, ap}
-use Prim.Native.Nat.{ℕ, _<_}
 use mathlib.Core.List.{List}
+use Prim.Native.Nat.{ℕ, _<_}
 use lib.ListN.{length}
 use Rattle.pages.specs.Pages.{pageOf}
 use Rattle.model.specs.Numbers.{Numbers, Limits, meant}
 use Rattle.model.specs.Words.{refusalSays}
-use Rattle.model.specs.Target.{Adjustment, Exact, exactZero, exactAll, WithinUnits, Held, FurtherThan, aboveExact}
+use Rattle.model.specs.Target.{Adjustment, Exact, exactZero, exactAll, WithinUnits, Bounded, FurtherThan, aboveExact}
 use Rattle.model.specs.Refusals.{openVerdict, GivenBy}
 use Rattle.model.specs.Request.{locate}
 use Rattle.model.specs.Run.{Call, read, outputOf, World, furtherRows, verdictOf, costsIn, left, afterAll, history, gathered}
@@ -36,7 +36,7 @@ use Rattle.claims.proofs.Opening as opening
 use Rattle.claims.proofs.Traces as traces
 use Rattle.claims.proofs.Refused as refusing
 use Rattle.claims.proofs.Runs.{run-sound, run-read, call-follows}
-use Rattle.claims.proofs.Drift.{run-near, run-held, victim-said}
+use Rattle.claims.proofs.Drift.{run-near, run-bounded, victim-said}
 
 -- ---- demand 1: on any pool and any bytes, a call says a refusal exactly when the scope's condition is the first that holds, and then it changes nothing
 
@@ -117,8 +117,8 @@ module _ (n : Numbers) (accepted : openVerdict n ≡ Fine) (frames store : List 
   pub demand-3 : WithinUnits (length made) (used .state .target) exact
   demand-3 = run-near n accepted frames store cs
 
-  pub demand-3-held : Held (meant n .b) exact
-  demand-3-held = run-held n accepted frames store cs
+  pub demand-3-bounded : Bounded (meant n .b) exact
+  demand-3-bounded = run-bounded n accepted frames store cs
 
   -- a full pool whose clean list is further than that from the exact target says, at a fault, the page at the end of the list that the exact target picks
   pub demand-3-victim : length (stateOf (used .state) .lists .E) ≡ 0 → FurtherThan (length made) (length (stateOf (used .state) .lists .C)) exact

@@ -1,15 +1,15 @@
--- Demand 3 for runs of the public calls: the pool's target is the start at 0 with the adjustments of the run made in order, so the model's drift theorem speaks of it; and
--- a fault of a full pool says the victim that the target picks.
+-- Demand 3 for runs of the public calls: the pool's target is the start at 0 with the adjustments of the run made in order, so the model's drift theorem
+-- speaks of it; and a fault of a full pool says the victim that the target picks.
 -- Assumes nothing.
 use mathlib.Core.Path.{_≡_, refl, sym, ap, _∙_, subst}
+use mathlib.Core.List.{List, [], _∷_}
 use Prim.Native.Nat.{ℕ, _+_, _≤_, _<_}
 use native.Mathlib.Omega.{arith}
-use mathlib.Core.List.{List, [], _∷_}
 use lib.ListN.{length}
 use borrow.Author.Tests.{le-ltb}
 use Rattle.model.specs.Numbers.{Numbers, meant}
 use Rattle.model.specs.Words.{faultSays, answerSays}
-use Rattle.model.specs.Target.{Costs, Adjustment, Exact, exactZero, exactAll, WithinUnits, Held, FurtherThan, aboveExact}
+use Rattle.model.specs.Target.{Costs, Adjustment, Exact, exactZero, exactAll, WithinUnits, Bounded, FurtherThan, aboveExact}
 use Rattle.model.specs.State.{State, opened as openedState}
 use Rattle.model.specs.Refusals.{openVerdict}
 use Rattle.model.specs.Request.{locate, victimBy, chosen, taken, request, requestAt}
@@ -20,7 +20,7 @@ use Rattle.model.specs.declared.Place.{Place}
 use Rattle.model.specs.declared.Place.the-variants.{Absent}
 use Rattle.model.specs.declared.Choice.{Choice}
 use Rattle.model.specs.declared.Verdict.the-variants.{Fine}
-use Rattle.model.proofs.Drift.{target-within, exact-held, same-victim}
+use Rattle.model.proofs.Drift.{target-within, exact-bounded, victim-same}
 use Rattle.model.proofs.Adjust.{Adjusted, stays, request-adjusted, flush-adjusted, adjusted-append}
 use Rattle.model.proofs.Refusals.{call-cases}
 use Rattle.model.proofs.LastWritten.{call-good}
@@ -41,14 +41,17 @@ module _ (x : World Pool) (s : Sound (x .state)) where
   costs-some : 0 < costsIn pools x .r + costsIn pools x .w
   costs-some = omega (arith, s .good .limits .r-low)
 
+  abbrev made-by : Call → List Adjustment
+  made-by c = broughtBy pools (verdictOf pools x c) (adjusting x c)
+
   -- a refused call makes no adjustment; a served one leaves state t, and makes those that lead to it
   moved-by : (c : Call) (t : State) → (verdictOf pools x c ≡ Fine → stateOf (left pools x c .state) ≡ t) → Adjusted before t (adjusting x c)
-      → Adjusted before (stateOf (after pools x c .state)) (broughtBy pools (verdictOf pools x c) (adjusting x c))
+      → Adjusted before (stateOf (after pools x c .state)) (made-by c)
   moved-by c t is a =
-      call-cases pools x c (λ l. (verdictOf pools x c ≡ Fine → stateOf (l .state) ≡ t) → Adjusted before (stateOf (l .state)) (broughtBy pools (verdictOf pools x c) (adjusting x c)))
+      call-cases pools x c (λ l. (verdictOf pools x c ≡ Fine → stateOf (l .state) ≡ t) → Adjusted before (stateOf (l .state)) (made-by c))
       (λ y e at. rw e (stays before before refl refl)) (λ e at. rw e (subst (λ (z : State). Adjusted before z (adjusting x c)) (sym (at e)) a)) is
 
-  call-moves : (c : Call) → Adjusted before (stateOf (after pools x c .state)) (broughtBy pools (verdictOf pools x c) (adjusting x c))
+  call-moves : (c : Call) → Adjusted before (stateOf (after pools x c .state)) (made-by c)
   call-moves (read q out) =
       moved-by (read q out) _ (λ e. call-follows x s (read q out) e .0 .0) (request-adjusted Read (costsIn pools x) costs-some before q)
   call-moves (write q start bytes) =
@@ -56,11 +59,12 @@ module _ (x : World Pool) (s : Sound (x .state)) where
   call-moves flush = moved-by flush _ (λ e. call-follows x s flush e .0) (flush-adjusted before)
   call-moves total = moved-by total _ (λ e. call-follows x s total e .0) (stays before before refl refl)
 
-pub run-moves : (cs : List Call) (x : World Pool) → Sound (x .state) → Adjusted (stateOf (x .state)) (stateOf (afterAll pools x cs .state)) (gathered pools adjusting x cs)
+pub run-moves : (cs : List Call) (x : World Pool) → Sound (x .state)
+    → Adjusted (stateOf (x .state)) (stateOf (afterAll pools x cs .state)) (gathered pools adjusting x cs)
 unfolding pools-lawful pools-framed framed-lawful framed-pooled
 run-moves [] x s = stays _ _ refl refl
 run-moves (c ∷ cs) x s =
-    adjusted-append (stateOf (x .state)) (stateOf (after pools x c .state)) (stateOf (afterAll pools (after pools x c) cs .state)) _ (gathered pools adjusting (after pools x c) cs)
+    adjusted-append _ (stateOf (after pools x c .state)) _ _ (gathered pools adjusting (after pools x c) cs)
     (call-moves x s c) (run-moves cs (after pools x c) (call-good pools pools-lawful x s c))
 
 -- ---- from an accepted open
@@ -81,27 +85,29 @@ module _ (n : Numbers) (accepted : openVerdict n ≡ Fine) (frames store : List 
   pub run-near : WithinUnits (length made) (used .state .target) (exactAll (meant n .b) exactZero made)
   run-near = rw (run-moved .target) (target-within (meant n .b) made (run-moved .divide))
 
-  pub run-held : Held (meant n .b) (exactAll (meant n .b) exactZero made)
-  run-held = exact-held (meant n .b) made (run-moved .divide)
+  pub run-bounded : Bounded (meant n .b) (exactAll (meant n .b) exactZero made)
+  run-bounded = exact-bounded (meant n .b) made (run-moved .divide)
 
 -- ---- the victim that a fault says
 
 module _ (x : World Pool) (s : Sound (x .state)) (k : ℕ) (exact : Exact) (near : WithinUnits k (x .state .target) exact)
     (full : length (stateOf (x .state) .lists .E) ≡ 0) (far : FurtherThan k (length (stateOf (x .state) .lists .C)) exact)
     (q : ℕ) (absent : locate (stateOf (x .state)) q ≡ Absent) where
-  abbrev held : State
-  held = stateOf (x .state)
+  abbrev state : State
+  state = stateOf (x .state)
 
-  chosen-is : chosen held ≡ victimBy (aboveExact (length (held .lists .C)) exact) (length (held .lists .C)) (length (held .lists .D))
+  chosen-is : chosen state ≡ victimBy (aboveExact (length (state .lists .C)) exact) (length (state .lists .C)) (length (state .lists .D))
   chosen-is =
-      let z : length (held .lists .E) ≤ 0 = omega arith in
-      rw (le-ltb 0 (length (held .lists .E)) z)
-      (same-victim k (held .target) (length (held .lists .C)) (length (held .lists .D)) exact near far)
+      let z : length (state .lists .E) ≤ 0 = omega arith in
+      rw (le-ltb 0 (length (state .lists .E)) z)
+      (victim-same k (state .target) (length (state .lists .C)) (length (state .lists .D)) exact near far)
 
-  fault-says : (op : Op) (c : Costs) → answerSays (request op c held q .answer) ≡ lastSaid held (aboveExact (length (held .lists .C)) exact)
-  fault-says Read c = ap (λ (p : Place). answerSays (requestAt Read c held q p .answer)) absent ∙ ap (λ (t : Choice). faultSays (taken held t .victim)) chosen-is
-  fault-says Write c = ap (λ (p : Place). answerSays (requestAt Write c held q p .answer)) absent ∙ ap (λ (t : Choice). faultSays (taken held t .victim)) chosen-is
+  fault-says : (op : Op) (c : Costs) → answerSays (request op c state q .answer) ≡ lastSaid state (aboveExact (length (state .lists .C)) exact)
+  fault-says Read c =
+      ap (λ (p : Place). answerSays (requestAt Read c state q p .answer)) absent ∙ ap (λ (t : Choice). faultSays (taken state t .victim)) chosen-is
+  fault-says Write c =
+      ap (λ (p : Place). answerSays (requestAt Write c state q p .answer)) absent ∙ ap (λ (t : Choice). faultSays (taken state t .victim)) chosen-is
 
-  pub victim-said : (c : Call) → Asks q c → verdictOf pools x c ≡ Fine → left pools x c .said ≡ lastSaid held (aboveExact (length (held .lists .C)) exact)
+  pub victim-said : (c : Call) → Asks q c → verdictOf pools x c ≡ Fine → left pools x c .said ≡ lastSaid state (aboveExact (length (state .lists .C)) exact)
   victim-said c (reads out) e = call-follows x s (read q out) e .0 .1 ∙ fault-says Read (costsIn pools x)
   victim-said c (writes start bytes) e = call-follows x s (write q start bytes) e .0 .1 ∙ fault-says Write (costsIn pools x)

@@ -1,8 +1,8 @@
 -- Demand 1 for CASA's pools: model's laws on what a call says, with the test of soundness told as soundness. Assumes nothing.
 use mathlib.Core.Path.{_≡_, refl, sym, ap, _∙_}
 use mathlib.Core.Bool.{Bool, true, false, not, false≢true}
-use native.Mathlib.Omega.{arith}
 use mathlib.Core.List.{List, [], _∷_}
+use native.Mathlib.Omega.{arith}
 use Rattle.model.specs.Words.{numberOf, refusalSays}
 use Rattle.model.specs.Refusals.{Row, GivenBy, here, later}
 use Rattle.model.specs.Run.{Call, read, write, flush, total, outputOf, World, Left, furtherRows, rowsOf, left}
@@ -18,7 +18,7 @@ use Rattle.casa.specs.Calls.{pools}
 use Rattle.casa.proofs.Lawful.{pools-framed, pools-lawful}
 
 means : (p : Pool) → soundB p ≡ true → Sound p
-means p = soundB-exact p .holds
+means p = soundB-exact p .means
 
 -- no row behind 2 gives 2
 abbrev NoneBroken : List Row → Type 0

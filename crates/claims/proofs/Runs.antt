@@ -1,24 +1,23 @@
--- Runs of calls from an accepted open. Where the lent memory is not of the right size, every call leaves the world as it is; so a read that is served shows that it was,
--- and then every page is as its history says. A served call does what Algorithm 1 does to the state that the pool holds.
+-- Runs of calls from an accepted open. Where the lent memory is not of the right size, every call leaves the world as it is; so a read that is served shows
+-- that it was, and then every page is as its history says. A served call does what Algorithm 1 does to the state that the pool holds.
 -- Assumes nothing.
 use mathlib.Core.Path.{_≡_, refl, sym, ap, _∙_, subst}
 use mathlib.Core.Bool.{Bool, true, false, false≢true}
-use Prim.Native.Nat.{ℕ, _*_}
 use mathlib.Core.List.{List, [], _∷_}
+use Prim.Native.Nat.{ℕ}
 use lib.ListN.{length}
 use Rattle.pages.specs.Pages.{pageOf}
 use Rattle.pages.specs.Memory.{sizesMatch}
 use Rattle.pages.proofs.Memory.{sizesMatch-sound}
 use Rattle.model.specs.Numbers.{Numbers, meant}
 use Rattle.model.specs.State.{State, opened as openedState, framesOf}
-use Rattle.model.specs.Frames.{holdingIn}
+use Rattle.model.specs.Frames.{contentIn}
 use Rattle.model.specs.Bytes.{Memory}
 use Rattle.model.specs.Moves.{Keeps}
 use Rattle.model.specs.Request.{flushed}
 use Rattle.model.specs.Refusals.{openVerdict}
 use Rattle.model.specs.Run.{Call, read, write, flush, total, World, rowsOf, verdictOf, costsIn, served, left, after, afterAll, history}
 use Rattle.model.specs.declared.Op.the-variants.{Read, Write}
-use Rattle.model.specs.declared.Verdict.{Verdict}
 use Rattle.model.specs.declared.Verdict.the-variants.{Fine}
 use Rattle.model.proofs.Refusals.{call-cases, first-clear, not-false, read-clear, write-clear}
 use Rattle.model.proofs.Moves.{vacant-keeps}
@@ -27,10 +26,10 @@ use Rattle.model.proofs.Good.{opened-good}
 use Rattle.model.proofs.LastWritten.{run-good, Right, run-right, last-written}
 use Rattle.model.proofs.Framed.{framed-lawful, framed-pooled}
 use Rattle.model.proofs.Steps.{states-framed, request-stepped}
-use Rattle.pool.specs.Pool.{poolOf, stateOf, Sound}
+use Rattle.pool.specs.Pool.{stateOf, Sound}
 use Rattle.pool.specs.declared.Pool.{Pool}
 use Rattle.pool.proofs.Form.{state-pool}
-use Rattle.casa.specs.Calls.{pools, openIf, openAfter}
+use Rattle.casa.specs.Calls.{pools, openAfter}
 use Rattle.casa.proofs.Lawful.{pools-framed, pools-lawful, open-limits, open-sound}
 use Rattle.claims.specs.World.{opened, Followed}
 
@@ -46,7 +45,8 @@ sized-stays x h c = call-cases pools x c (λ l. _≡_ {A = World Pool} (record {
     clash : {A : Type 0} → sized x ≡ true → A
     clash t = absurd (false≢true (sym h ∙ t))
 
-    stays-served : (d : Call) → verdictOf pools x d ≡ Fine → _≡_ {A = World Pool} (record { state = served pools x d .state; memory = served pools x d .memory }) x
+    stays-served : (d : Call) → verdictOf pools x d ≡ Fine
+        → _≡_ {A = World Pool} (record { state = served pools x d .state; memory = served pools x d .memory }) x
     stays-served (read q out) e = clash (not-false _ (first-clear (rowsOf pools x (read q out)) e .1 .0))
     stays-served (write q start bytes) e = clash (not-false _ (first-clear (rowsOf pools x (write q start bytes)) e .1 .0))
     stays-served flush e = clash (not-false _ (first-clear (rowsOf pools x flush) e .1 .0))
@@ -61,7 +61,7 @@ run-sized cs x q out e = go (sized x) refl
   where
     go : (t : Bool) → sized x ≡ t → sized x ≡ true
     go true h = h
-    go false h = not-false _ (first-clear (rowsOf pools x (read q out)) (ap (λ (y : World Pool). verdictOf pools y (read q out)) (sym (run-stays cs x h)) ∙ e) .1 .0)
+    go false h = not-false _ (first-clear (rowsOf pools x (read q out)) (rw (run-stays cs x h) at e) .1 .0)
 
 -- ---- a pool that is sound stays so
 
@@ -74,8 +74,7 @@ run-sound = run-good pools pools-lawful
 module _ (n : Numbers) (accepted : openVerdict n ≡ Fine) (frames store : List ℕ) where
   pub open-state : stateOf (openAfter n .pool) ≡ openedState (meant n)
   unfolding openAfter
-  open-state =
-      ap (λ (v : Verdict). stateOf (openIf v (meant n) .pool)) accepted ∙ state-pool (openedState (meant n)) (opened-good (meant n) (open-limits n accepted) .placed .paged)
+  open-state = rw accepted (state-pool (openedState (meant n)) (opened-good (meant n) (open-limits n accepted) .placed .paged))
 
   open-right : sized (opened n frames store) ≡ true → Right pools pools-lawful (opened n frames store) (λ p. pageOf (meant n .P) p store)
   unfolding pools-lawful pools-framed framed-lawful framed-pooled states-framed
@@ -85,8 +84,8 @@ module _ (n : Numbers) (accepted : openVerdict n ≡ Fine) (frames store : List 
       let m : Memory = record { frames = frames; store = store } in
       record {
         good = open-sound n accepted;
-        keeps = subst (λ (s : State). Keeps (s .numbers) (record { holds = holdingIn (framesOf s); memory = m }) (λ p. pageOf (meant n .P) p store)) (sym open-state)
-            (keeps-same (meant n) _ _ m _ (λ f. refl) (vacant-keeps (meant n) m (z .0) (z .1)));
+        keeps = subst (λ (s : State). Keeps (s .numbers) (record { content = contentIn (framesOf s); memory = m }) (λ p. pageOf (meant n .P) p store))
+            (sym open-state) (keeps-same (meant n) _ _ m _ (λ f. refl) (vacant-keeps (meant n) m (z .0) (z .1)));
       }
 
   -- a read that is served hands out the page as its history says
@@ -103,11 +102,11 @@ module _ (x : World Pool) (s : Sound (x .state)) where
   unfolding left
   call-follows (read q out) e =
       let a = read-clear pools x q out e in
-      let t = request-stepped (stateOf (x .state)) (record { good = s .good; blank = s .blank }) q (record { inside = a .inside; more = a .more }) Read (costsIn pools x) in
+      let t = request-stepped (stateOf (x .state)) (record { good = s .good; blank = s .blank }) q (a .2) (a .1 .more) Read (costsIn pools x) in
       rw e ((state-pool _ (t .good .good .placed .paged), refl), refl, refl)
   call-follows (write q start bytes) e =
       let a = write-clear pools x q start bytes e in
-      let t = request-stepped (stateOf (x .state)) (record { good = s .good; blank = s .blank }) q (record { inside = a .inside; more = a .more }) Write (costsIn pools x) in
+      let t = request-stepped (stateOf (x .state)) (record { good = s .good; blank = s .blank }) q (a .2) (a .1 .more) Write (costsIn pools x) in
       rw e ((state-pool _ (t .good .good .placed .paged), refl), refl)
   call-follows flush e = rw e (state-pool (flushed (stateOf (x .state))) (s .good .placed .paged), refl, refl)
   call-follows total e = rw e (refl, refl, refl)

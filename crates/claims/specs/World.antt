@@ -2,9 +2,9 @@
 -- the pages at the ends of the lists, and the rows of a trace.
 -- Assumes nothing.
 use mathlib.Core.Path.{_≡_}
-use Prim.Native.Nat.{ℕ, _-_}
 use mathlib.Core.Bool.{Bool, not}
 use mathlib.Core.List.{List, [], _∷_, _++_}
+use Prim.Native.Nat.{ℕ, _-_}
 use lib.Dec.{eqb, ltb}
 use lib.ListN.{length}
 use Rattle.pages.specs.Pages.{pageOf}
@@ -48,7 +48,8 @@ TraceSays a y = checkedSays a ≡ refused (numberOf y) (namedBy y)
 abbrev pub opened : Numbers → List ℕ → List ℕ → World Pool
 opened n frames store = worldOf (openAfter n .pool) frames store
 
--- ---- a call that is served, of a pool that holds state s, over bytes m, leaves l as Algorithm 1 does: the pool's state, what is said, and, by the frame, the bytes
+-- ---- a call that is served, of a pool that holds state s, over bytes m, leaves l as Algorithm 1 does: the pool's state, what is said, and, by the frame,
+-- the bytes
 
 abbrev pub Requested : Op → Costs → State → ℕ → Left Pool → Type 0
 Requested op k s q l = (stateOf (l .state) ≡ request op k s q .state) × (l .said ≡ answerSays (request op k s q .answer))
@@ -61,7 +62,8 @@ Followed k s m (read q out) l =
 Followed k s m (write q start bytes) l =
     Requested Write k s q l
     × (l .memory
-    ≡ overlaid (s .numbers .P) (request Write k s q .frame) start bytes (brought (s .numbers .P) (request Write k s q .frame) q (request Write k s q .answer) m))
+    ≡ overlaid (s .numbers .P) (request Write k s q .frame) start bytes
+    (brought (s .numbers .P) (request Write k s q .frame) q (request Write k s q .answer) m))
 Followed k s m flush l =
     (stateOf (l .state) ≡ flushed s)
     × (l .said ≡ saidFlushed (length (s .lists .D)))

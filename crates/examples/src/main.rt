@@ -1,38 +1,22 @@
 // Runs the scope's worked examples that are not proved in its table, on both sides of each edge, and prints what came out.
 ghost use Prim.Native.Nat.{_≤_};
 ghost use lib.ListN.{length};
-use casa::Flushed;
 use casa::Served;
-use libc::STDOUT_FILENO;
 use model::Answer;
-use model::Costing;
 use model::Flushing;
 use model::Opening;
-use model::Refusal;
 use model::Victim;
 use pool::Pool;
+use tell::also_refused;
+use tell::end;
+use tell::number;
+use tell::word;
 use trace::Checked;
 use trace::Next;
 
-// ---- words and numbers
+const FAR: usize = 18446744073709551615;
 
-fn word(text: &[u8]) {
-    io::write_all(STDOUT_FILENO, text);
-}
-
-fn number(n: u64) {
-    word(b" ");
-    io::print_decimal(STDOUT_FILENO, n);
-}
-
-fn end() {
-    word(b"\n");
-}
-
-fn refused(why: Refusal) {
-    word(b" refused");
-    number(model::number_of(why));
-}
+// ---- answers
 
 fn tell_victim(victim: Victim) {
     match victim {
@@ -49,19 +33,13 @@ fn tell_victim(victim: Victim) {
 }
 
 fn tell_answer(answer: Answer) {
-    match answer {
-        Answer::Refused(why) => refused(why),
-        Answer::Hit => word(b" hit"),
-        Answer::Fault(victim) => {
-            word(b" fault");
-            tell_victim(victim);
-        }
-    }
+    tell::result(answer);
+    tell_victim(tell::victim_of(answer));
 }
 
 fn tell_flush(answer: Flushing) {
     match answer {
-        Flushing::Refused(why) => refused(why),
+        Flushing::Refused(why) => also_refused(why),
         Flushing::Wrote(pages) => {
             word(b" wrote");
             number(pages as u64);
@@ -71,10 +49,7 @@ fn tell_flush(answer: Flushing) {
 
 fn tell_total(pool: Pool) {
     word(b"total");
-    match casa::total(pool) {
-        Costing::Refused(why) => refused(why),
-        Costing::Total(cost) => number(cost),
-    }
+    tell::total(casa::total(pool));
     end();
 }
 
@@ -91,7 +66,7 @@ fn try_open(frames: usize, page_bytes: usize, pages: usize, read_cost: u64, writ
     let answer = opened.answer;
     let pool = opened.pool;
     match answer {
-        Opening::Refused(why) => refused(why),
+        Opening::Refused(why) => also_refused(why),
         Opening::Opened => {
             word(b" opened with costs");
             number(pool.read_cost);
@@ -115,26 +90,24 @@ fn openings() {
     try_open(2, 16, 8, 5, 0);
     try_open(2, 16, 8, 1001, 1);
     try_open(2, 16, 8, 1, 1001);
-    try_open(
-        18446744073709551615,
-        18446744073709551615,
-        18446744073709551615,
-        18446744073709551615,
-        18446744073709551615,
-    );
+    try_open(FAR, FAR, FAR, FAR as u64, FAR as u64);
 }
 
 // ---- calls that are told in a line
+
+// The end of a call's line, and the pool that the next call takes.
+fn tell_served(served: Served) -> Pool {
+    let answer = served.answer;
+    tell_answer(answer);
+    end();
+    served.pool
+}
 
 fn read(pool: Pool, page: usize, frames: &mut [u8], store: &mut [u8], out: &mut [u8]) -> Pool {
     word(b"read");
     number(page as u64);
     let served = casa::read_page(pool, page, frames, store, out);
-    let answer = served.answer;
-    let next = served.pool;
-    tell_answer(answer);
-    end();
-    next
+    tell_served(served)
 }
 
 fn write(
@@ -150,11 +123,7 @@ fn write(
     number(start as u64);
     number(bytes.len() as u64);
     let served = casa::write_page(pool, page, start, bytes, frames, store);
-    let answer = served.answer;
-    let next = served.pool;
-    tell_answer(answer);
-    end();
-    next
+    tell_served(served)
 }
 
 fn flush(pool: Pool, frames: &[u8], store: &mut [u8]) -> Pool {
@@ -191,29 +160,55 @@ fn one_frame() {
     tell_total(last);
 }
 
-// Page N - 1 and N, stretches that end at P and past it, outputs of a wrong length.
+// Page N - 1, N and one far off; then outputs that lack a byte.
+fn pages_and_outputs(pool: Pool, frames: &mut [u8; 32], store: &mut [u8; 128]) -> Pool {
+    let pages = [7, 8, FAR, 7, 8];
+    let mut now = pool;
+    let mut k = 0;
+    while k < 5 {
+        let mut out = [0u8; 16];
+        let n = 16 - k / 3;
+        let after = read(now, pages[k], frames, store, &mut out[0..n]);
+        now = after;
+        k += 1;
+    }
+    now
+}
+
+// The lengths of six stretches: a page twice, three times a byte, and nothing.
+fn stretch_length(k: usize) -> usize
+    ensures { λ r. ⌜ r ≤ 16 ⌝ }
+{
+    match k {
+        0 | 1 => 16,
+        5 => 0,
+        _ => 1,
+    }
+}
+
+// Stretches that end at P and past it, and one of no bytes.
+fn stretches(pool: Pool, frames: &mut [u8; 32], store: &mut [u8; 128]) -> Pool {
+    let starts = [0, 1, 15, 16, FAR, 0];
+    let bytes = [9u8; 16];
+    let mut now = pool;
+    let mut k = 0;
+    while k < 6 {
+        let n = stretch_length(k);
+        let after = write(now, 7, starts[k], &bytes[0..n], frames, store);
+        now = after;
+        k += 1;
+    }
+    now
+}
+
 fn pages_and_stretches() {
     let mut frames = [0u8; 32];
     let mut store = [0u8; 128];
-    let mut out = [0u8; 16];
-    let mut short = [0u8; 15];
     let opened = casa::open(2, 16, 8, 1, 3);
     let pool = opened.pool;
-    let page = [9u8; 16];
-    let one = [9u8];
-    let none = [0u8; 0];
-    let a = read(pool, 7, &mut frames, &mut store, &mut out);
-    let b = read(a, 8, &mut frames, &mut store, &mut out);
-    let c = read(b, 18446744073709551615, &mut frames, &mut store, &mut out);
-    let d = read(c, 7, &mut frames, &mut store, &mut short);
-    let e = read(d, 8, &mut frames, &mut store, &mut short);
-    let f = write(e, 7, 0, &page, &mut frames, &mut store);
-    let g = write(f, 7, 1, &page, &mut frames, &mut store);
-    let h = write(g, 7, 15, &one, &mut frames, &mut store);
-    let i = write(h, 7, 16, &one, &mut frames, &mut store);
-    let j = write(i, 7, 18446744073709551615, &one, &mut frames, &mut store);
-    let k = write(j, 7, 0, &none, &mut frames, &mut store);
-    tell_counts(k);
+    let after = pages_and_outputs(pool, &mut frames, &mut store);
+    let last = stretches(after, &mut frames, &mut store);
+    tell_counts(last);
 }
 
 // 999,999,999 calls served, and one more.
@@ -292,61 +287,86 @@ fn length_of(set: usize) -> usize
     16
 }
 
-fn tell_sums(frames: &[u8], store: &[u8])
-    requires { ⌜ (length (now frames) ≤ 128) × (length (now store) ≤ 128) ⌝ }
-{
+// The line of a set starts with the call and the set.
+fn tell_set(what: &[u8], set: usize) {
+    word(what);
+    number(set as u64);
+}
+
+// What the bytes add up to: a refused call leaves them all.
+fn tell_sums(frames: &[u8; 32], store: &[u8; 128]) {
     word(b" bytes");
     number(sum(frames));
     number(sum(store));
 }
 
-fn read_set(set: usize) {
-    let mut lent = [1u8; 32];
-    let frames: &mut [u8] = &mut lent;
-    let mut store = [2u8; 128];
-    let mut space = [3u8; 17];
-    let out: &mut [u8] = &mut space;
+fn read_as(set: usize, frames: &mut [u8], store: &mut [u8], out: &mut [u8]) -> Answer
+    requires { ⌜ (32 ≤ length (now frames)) × (17 ≤ length (now out)) ⌝ }
+{
     let f = frames_of(set);
     let n = length_of(set);
-    let pool = pool_of(set);
-    let page = page_of(set);
-    let served = casa::read_page(pool, page, &mut frames[0..f], &mut store, &mut out[0..n]);
-    word(b"read set");
-    number(set as u64);
-    let answer = served.answer;
+    let served = casa::read_page(
+        pool_of(set),
+        page_of(set),
+        &mut frames[0..f],
+        store,
+        &mut out[0..n],
+    );
+    served.answer
+}
+
+fn read_set(set: usize) {
+    let mut frames = [1u8; 32];
+    let mut store = [2u8; 128];
+    let mut out = [3u8; 17];
+    let answer = read_as(set, &mut frames, &mut store, &mut out);
+    tell_set(b"read set", set);
     tell_answer(answer);
-    tell_sums(frames, &store);
-    number(sum(out));
+    tell_sums(&frames, &store);
+    number(sum(&out));
     end();
 }
 
-fn write_set(set: usize) {
-    let mut lent = [1u8; 32];
-    let frames: &mut [u8] = &mut lent;
-    let mut store = [2u8; 128];
+fn write_as(set: usize, frames: &mut [u8], store: &mut [u8]) -> Answer
+    requires { ⌜ 32 ≤ length (now frames) ⌝ }
+{
     let bytes = [3u8; 17];
     let f = frames_of(set);
     let n = length_of(set);
-    let pool = pool_of(set);
-    let page = page_of(set);
-    let served = casa::write_page(pool, page, 0, &bytes[0..n], &mut frames[0..f], &mut store);
-    word(b"write set");
-    number(set as u64);
-    let answer = served.answer;
+    let served = casa::write_page(
+        pool_of(set),
+        page_of(set),
+        0,
+        &bytes[0..n],
+        &mut frames[0..f],
+        store,
+    );
+    served.answer
+}
+
+fn write_set(set: usize) {
+    let mut frames = [1u8; 32];
+    let mut store = [2u8; 128];
+    let answer = write_as(set, &mut frames, &mut store);
+    tell_set(b"write set", set);
     tell_answer(answer);
-    tell_sums(frames, &store);
+    tell_sums(&frames, &store);
     end();
+}
+
+fn flush_as(set: usize, frames: &[u8], store: &mut [u8]) -> Flushing
+    requires { ⌜ 32 ≤ length (now frames) ⌝ }
+{
+    let f = frames_of(set);
+    let flushed = casa::flush(pool_of(set), &frames[0..f], store);
+    flushed.answer
 }
 
 fn flush_set(set: usize) {
     let frames = [1u8; 32];
     let mut store = [2u8; 128];
-    let f = frames_of(set);
-    let pool = pool_of(set);
-    let flushed = casa::flush(pool, &frames[0..f], &mut store);
-    word(b"flush set");
-    number(set as u64);
-    let answer = flushed.answer;
+    let answer = flush_as(set, &frames, &mut store);
+    tell_set(b"flush set", set);
     tell_flush(answer);
     tell_sums(&frames, &store);
     end();
@@ -366,21 +386,30 @@ fn sets() {
 
 // ---- traces
 
-fn tell_trace(bytes: &[u8]) {
-    word(b"trace of");
-    number(bytes.len() as u64);
+fn tell_checked(bytes: &[u8]) {
     match trace::check(bytes) {
-        Checked::Refused(why) => refused(why),
+        Checked::Refused(why) => also_refused(why),
         Checked::Fine(trailer) => {
             word(b" read with records");
             number(trailer.records as u64);
         }
     }
+}
+
+// Whether a reader yields a first record.
+fn tell_first(bytes: &[u8]) {
     let place = trace::first_place(bytes);
     match trace::record_at(bytes, place) {
         Next::Record(_) => word(b" first there"),
         Next::End => word(b" none"),
     }
+}
+
+fn tell_trace(bytes: &[u8]) {
+    word(b"trace of");
+    number(bytes.len() as u64);
+    tell_checked(bytes);
+    tell_first(bytes);
     end();
 }
 

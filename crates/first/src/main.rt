@@ -1,16 +1,15 @@
 // A first program: opens a pool, writes a mark into a page, reads the page back, flushes, and prints what came out.
-use libc::STDOUT_FILENO;
 use model::Answer;
 use model::Flushing;
 
-fn tell(what: &[u8], n: u64) {
-    io::write_all(STDOUT_FILENO, what);
-    io::print_decimal(STDOUT_FILENO, n);
-    io::write_all(STDOUT_FILENO, b"\n");
+fn line(what: &[u8], n: u64) {
+    tell::word(what);
+    tell::digits(n);
+    tell::end();
 }
 
 fn tell_byte(what: &[u8], byte: u8) {
-    tell(what, byte as u64);
+    line(what, byte as u64);
 }
 
 fn tell_read(answer: Answer, byte: u8) {
@@ -23,8 +22,8 @@ fn tell_read(answer: Answer, byte: u8) {
 
 fn tell_flush(answer: Flushing) {
     match answer {
-        Flushing::Wrote(pages) => tell(b"pages written: ", pages as u64),
-        Flushing::Refused(_) => tell(b"refused; pages written: ", 0),
+        Flushing::Wrote(pages) => line(b"pages written: ", pages as u64),
+        Flushing::Refused(_) => line(b"refused; pages written: ", 0),
     }
 }
 

@@ -17,7 +17,8 @@ pub fn read_page_in(
     store: &mut [u8],
     out: &mut [u8],
 ) -> Answer
-    ensures { λ r. ⌜ servedLeft (record { pool = now (pool .exit); answer = r }) (now (frames .exit)) (now (store .exit)) (now (out .exit)) ≡ after (now (pool .entry)) (now (frames .entry)) (now (store .entry)) (run.read page (now (out .entry))) ⌝ }
+    ensures { λ r. ⌜ servedLeft (record { pool = now (pool .exit); answer = r }) (now (frames .exit)) (now (store .exit)) (now (out .exit))
+        ≡ after (now (pool .entry)) (now (frames .entry)) (now (store .entry)) (run.read page (now (out .entry))) ⌝ }
 {
     let done = casa::read_page(*pool, page, frames, store, out);
     *pool = done.pool;
@@ -33,7 +34,8 @@ pub fn write_page_in(
     frames: &mut [u8],
     store: &mut [u8],
 ) -> Answer
-    ensures { λ r. ⌜ servedLeft (record { pool = now (pool .exit); answer = r }) (now (frames .exit)) (now (store .exit)) [] ≡ after (now (pool .entry)) (now (frames .entry)) (now (store .entry)) (run.write page start (now (bytes .entry))) ⌝ }
+    ensures { λ r. ⌜ servedLeft (record { pool = now (pool .exit); answer = r }) (now (frames .exit)) (now (store .exit)) []
+        ≡ after (now (pool .entry)) (now (frames .entry)) (now (store .entry)) (run.write page start (now (bytes .entry))) ⌝ }
 {
     let done = casa::write_page(*pool, page, start, bytes, frames, store);
     *pool = done.pool;
@@ -42,7 +44,8 @@ pub fn write_page_in(
 
 // Writes every changed page to the store. Refused: 2, 3, 6.
 pub fn flush_in(pool: &mut Pool, frames: &[u8], store: &mut [u8]) -> Flushing
-    ensures { λ r. ⌜ flushedLeft (record { pool = now (pool .exit); answer = r }) (now (frames .entry)) (now (store .exit)) ≡ after (now (pool .entry)) (now (frames .entry)) (now (store .entry)) run.flush ⌝ }
+    ensures { λ r. ⌜ flushedLeft (record { pool = now (pool .exit); answer = r }) (now (frames .entry)) (now (store .exit)) ≡
+        after (now (pool .entry)) (now (frames .entry)) (now (store .entry)) run.flush ⌝ }
 {
     let done = casa::flush(*pool, frames, store);
     *pool = done.pool;
@@ -50,14 +53,15 @@ pub fn flush_in(pool: &mut Pool, frames: &[u8], store: &mut [u8]) -> Flushing
 }
 
 // A caller that lends a pool of its own is promised what the call by value promises: both answer alike.
-pub fn read_page_held(
+pub fn read_page_own(
     pool: Pool,
     page: usize,
     frames: &mut [u8],
     store: &mut [u8],
     out: &mut [u8],
 ) -> Served
-    ensures { λ r. ⌜ servedLeft r (now (frames .exit)) (now (store .exit)) (now (out .exit)) ≡ after pool (now (frames .entry)) (now (store .entry)) (run.read page (now (out .entry))) ⌝ }
+    ensures { λ r. ⌜ servedLeft r (now (frames .exit)) (now (store .exit)) (now (out .exit)) ≡ after pool
+        (now (frames .entry)) (now (store .entry)) (run.read page (now (out .entry))) ⌝ }
 {
     let mut own = pool;
     let answer = read_page_in(&mut own, page, frames, store, out);

@@ -6,9 +6,9 @@ use Prim.Native.Nat.{ℕ, suc, _+_, _-_, _*_, _/_, _%_, _^_, _≤_, _<_}
 use native.Mathlib.Nat.{suc-mul, zero-mul, mul-le-mul-right, add-sub-cancel-left, sub-zero}
 use native.Mathlib.Numerals.{add-one}
 use native.Mathlib.Omega.{arith}
-use borrow.Rule.Slice.PartMut.{midOf, putMid, mid-len}
 use lib.ListN.{length, take, drop, getD, set, length-append, length-drop, drop-of-length-le}
 use lib.Seq.{length-take-le, take-all, drop-length, take-suc-set, take-at, drop-cons, drop-drop}
+use borrow.Rule.Slice.PartMut.{midOf, putMid, mid-len}
 use Rattle.little.specs.Little.{bytesOf, numberOf, bytesOfAll, numbersOf, AllBelow}
 use Rattle.little.proofs.Laws.{allBelow-drop, bytesOf-length, numberOf-below}
 

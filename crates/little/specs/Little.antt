@@ -4,8 +4,8 @@
 --     bytesOfAll w xs      each number of a list in w bytes, one after the other
 --     numbersOf w n bs     the n numbers of w bytes each that bytes spell
 -- Assumes nothing.
-use Prim.Native.Nat.{ℕ, zero, suc, _+_, _*_, _/_, _%_, _<_}
 use mathlib.Core.List.{List, [], _∷_, _++_}
+use Prim.Native.Nat.{ℕ, zero, suc, _+_, _*_, _/_, _%_, _<_}
 use lib.ListN.{take, drop, getD}
 
 unfoldable pub bytesOf : ℕ → ℕ → List ℕ

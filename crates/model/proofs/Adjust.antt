@@ -2,10 +2,10 @@
 -- target is the start with the run's adjustments made in order, and the drift theorem speaks of it.
 -- Assumes nothing.
 use mathlib.Core.Path.{_≡_, refl, sym, _∙_}
+use mathlib.Core.List.{List, [], _∷_, _++_}
 use Prim.Native.Nat.{ℕ, _+_, _<_}
 use native.Mathlib.Nat.{mul-pos}
 use native.Mathlib.Omega.{arith}
-use mathlib.Core.List.{List, [], _∷_, _++_}
 use Rattle.model.specs.Target.{Costs, Adjustment, rounded, adjustBy, adjustAllBy}
 use Rattle.model.specs.State.{State}
 use Rattle.model.specs.Request.{locate, chosen, taken, faultInto, requestAt, request, flushed, adjustmentsAt, adjustmentsOf}

@@ -2,19 +2,21 @@
 -- at most k · e; holding both between 0 and b brings them no further apart. The way to round and its e are parameters.
 --     drift            after k adjustments, for any way to round
 --     target-within    for the way that the pool rounds: at most k units
---     exact-held       the exact target is a fraction from 0 to b
---     same-victim      a clean list further than that from the exact target is on the same side of both
+--     exact-bounded       the exact target is a fraction from 0 to b
+--     victim-same      a clean list further than that from the exact target is on the same side of both
 -- Assumes nothing.
-use Prim.Native.Nat.{ℕ, _+_, _*_, _-_, _≤_, _<_, min}
-use native.Mathlib.Nat.{mul-le-mul-right, mul-pos, zero-add, min-le-right, mul-sub, mul-comm, min-eq-left, min-eq-right, lt-of-mul-lt-mul-right, div-mul-le-self, lt-div-mul-add}
-use native.Mathlib.Decide.{decLe}
-use native.Mathlib.Omega.{arith}
 use mathlib.Core.Path.{_≡_, sym, _∙_, ap, subst}
 use mathlib.Core.List.{List, [], _∷_}
+use Prim.Native.Nat.{ℕ, _+_, _*_, _-_, _≤_, _<_, min}
+use native.Mathlib.Nat.{mul-le-mul-right, mul-pos, zero-add, min-le-right, mul-sub, mul-comm}
+use native.Mathlib.Nat.{min-eq-left, min-eq-right, lt-of-mul-lt-mul-right, div-mul-le-self, lt-div-mul-add}
+use native.Mathlib.Decide.{decLe}
+use native.Mathlib.Omega.{arith}
 use lib.ListN.{length}
 use borrow.Author.Tests.{lt-ltb, le-ltb}
 use Rattle.model.specs.Numbers.{unit}
-use Rattle.model.specs.Target.{Adjustment, up, down, stepDen, rounded, stepUnits, adjustBy, adjustAllBy, Exact, exactZero, exactStep, exactAll, RoundsWithin, roundingError, Near, WithinUnits, Held, FurtherThan, longer, shorter, aboveTarget, aboveExact}
+use Rattle.model.specs.Target.{Adjustment, up, down, stepDen, rounded, stepUnits, adjustBy, adjustAllBy, Exact, exactZero, exactStep}
+use Rattle.model.specs.Target.{exactAll, RoundsWithin, roundingError, Near, WithinUnits, Bounded, FurtherThan, longer, shorter, aboveTarget, aboveExact}
 use Rattle.model.specs.Request.{victimBy}
 
 min-mul : (a b k : ℕ) → min a b * k ≡ min (a * k) (b * k)
@@ -52,9 +54,11 @@ AllDivide (a ∷ as′) = (0 < stepDen a) × AllDivide as′
 module _ (b e : ℕ) (round : ℕ → ℕ → ℕ) (ok : RoundsWithin e round) where
   near-step : (g τ : ℕ) (x : Exact) (a : Adjustment) → 0 < stepDen a → Near g τ x → Near (g + e) (adjustBy round b τ a) (exactStep b x a)
   near-step g τ x (up k c d) p near =
-      near-up b e g τ (x .num) (x .den) (k .r * d) ((k .r + k .w) * c) (stepUnits round (up k c d)) (near .above) (near .below) (ok .over _ _ p) (ok .under _ _ p)
+      near-up b e g τ (x .num) (x .den) (k .r * d) ((k .r + k .w) * c) (stepUnits round (up k c d))
+      (near .above) (near .below) (ok .over _ _ p) (ok .under _ _ p)
   near-step g τ x (down k c d) p near =
-      near-down b e g τ (x .num) (x .den) (k .w * c) ((k .r + k .w) * d) (stepUnits round (down k c d)) (near .above) (near .below) (ok .over _ _ p) (ok .under _ _ p)
+      near-down b e g τ (x .num) (x .den) (k .w * c) ((k .r + k .w) * d) (stepUnits round (down k c d))
+      (near .above) (near .below) (ok .over _ _ p) (ok .under _ _ p)
 
   near-steps : (l : List Adjustment) (g τ : ℕ) (x : Exact) → AllDivide l → Near g τ x → Near (g + length l * e) (adjustAllBy round b τ l) (exactAll b x l)
   near-steps [] g τ x p near = subst (λ k. Near k τ x) (omega arith) near
@@ -78,19 +82,19 @@ module _ (b : ℕ) (l : List Adjustment) (p : AllDivide l) where
   pub target-within : WithinUnits (length l) (adjustAllBy rounded b 0 l) (exactAll b exactZero l)
   target-within = record { above = omega (arith, near-exact .above); below = omega (arith, near-exact .below) }
 
--- ---- the exact target is held
+-- ---- the exact target is bounded
 
-held-step : (b : ℕ) (x : Exact) (a : Adjustment) → 0 < stepDen a → Held b x → Held b (exactStep b x a)
-held-step b x (up k c d) p h = record { positive = mul-pos (h .positive) p; most = min-le-right _ _ }
-held-step b x (down k c d) p h =
+step-bounded : (b : ℕ) (x : Exact) (a : Adjustment) → 0 < stepDen a → Bounded b x → Bounded b (exactStep b x a)
+step-bounded b x (up k c d) p h = record { positive = mul-pos (h .positive) p; most = min-le-right _ _ }
+step-bounded b x (down k c d) p h =
     record { positive = mul-pos (h .positive) p; most = omega (arith, mul-le-mul-right ((k .r + k .w) * d) (h .most)) }
 
-held-steps : (b : ℕ) (l : List Adjustment) (x : Exact) → AllDivide l → Held b x → Held b (exactAll b x l)
-held-steps b [] x p h = h
-held-steps b (a ∷ l) x p h = held-steps b l (exactStep b x a) (p .1) (held-step b x a (p .0) h)
+steps-bounded : (b : ℕ) (l : List Adjustment) (x : Exact) → AllDivide l → Bounded b x → Bounded b (exactAll b x l)
+steps-bounded b [] x p h = h
+steps-bounded b (a ∷ l) x p h = steps-bounded b l (exactStep b x a) (p .1) (step-bounded b x a (p .0) h)
 
-pub exact-held : (b : ℕ) (l : List Adjustment) → AllDivide l → Held b (exactAll b exactZero l)
-exact-held b l p = held-steps b l exactZero p (record { positive = omega arith; most = omega arith })
+pub exact-bounded : (b : ℕ) (l : List Adjustment) → AllDivide l → Bounded b (exactAll b exactZero l)
+exact-bounded b l p = steps-bounded b l exactZero p (record { positive = omega arith; most = omega arith })
 
 -- ---- the victim
 
@@ -103,5 +107,5 @@ above-same k τ c x near (shorter h) =
     let l : c * unit < τ = lt-of-mul-lt-mul-right (x .den) (omega (arith, near .below)) in
     le-ltb τ (c * unit) (omega arith) ∙ sym (le-ltb (x .num) (c * x .den) (omega arith))
 
-pub same-victim : (k τ c d : ℕ) (x : Exact) → WithinUnits k τ x → FurtherThan k c x → victimBy (aboveTarget c τ) c d ≡ victimBy (aboveExact c x) c d
-same-victim k τ c d x near far = ap (λ t. victimBy t c d) (above-same k τ c x near far)
+pub victim-same : (k τ c d : ℕ) (x : Exact) → WithinUnits k τ x → FurtherThan k c x → victimBy (aboveTarget c τ) c d ≡ victimBy (aboveExact c x) c d
+victim-same k τ c d x near far = ap (λ t. victimBy t c d) (above-same k τ c x near far)

@@ -1,16 +1,16 @@
--- A call says a refusal exactly when that refusal's row is the first whose condition holds, and then it leaves everything. A call that is served says no refusal: the
--- answer of a lawful policy to a request is none, and a flush and a total have words of their own.
+-- A call says a refusal exactly when that refusal's row is the first whose condition holds, and then it leaves everything. A call that is served says no
+-- refusal: the answer of a lawful policy to a request is none, and a flush and a total have words of their own.
 --     first-given, given-first    the first row whose condition holds, both ways
 --     says-given, given-says      what a call says, told from its rows, for any lawful policy
 --     says-leaves                 a call that says a refusal leaves everything
 -- Assumes nothing.
 use mathlib.Core.Path.{_≡_, refl, ap, _∙_}
 use mathlib.Core.Bool.{Bool, true, false}
+use mathlib.Core.List.{List, [], _∷_}
 use Prim.Native.Nat.{ℕ}
 use native.Mathlib.Omega.{arith}
-use mathlib.Core.List.{List, [], _∷_}
-use Rattle.model.specs.Words.{Said, answerSays, refusalSays}
-use Rattle.model.specs.Moves.{Holding}
+use Rattle.model.specs.Words.{answerSays, refusalSays}
+use Rattle.model.specs.Moves.{Content}
 use Rattle.model.specs.Policy.{Policy}
 use Rattle.model.specs.Refusals.{Row, verdictBy, first, GivenBy, here, later}
 use Rattle.model.specs.Run.{Call, read, write, flush, total, outputOf, World, rowsOf, verdictOf, costsIn, outcomeOf, served, left, leftBy}
@@ -24,8 +24,8 @@ use Rattle.model.specs.declared.Verdict.{Verdict}
 use Rattle.model.specs.declared.Verdict.the-variants.{Fine, Refused}
 use Rattle.model.proofs.Words.{refusal-one-to-one}
 use Rattle.model.proofs.Outcomes.{AnswerRight}
-use Rattle.model.proofs.Refusals.{call-cases, read-clear, write-clear}
-use Rattle.model.proofs.LastWritten.{May, Lawful}
+use Rattle.model.proofs.Refusals.{call-cases, RequestClear, read-clear, write-clear}
+use Rattle.model.proofs.LastWritten.{Lawful}
 
 pub first-given : (xs : List Row) (y : Refusal) → first xs ≡ Refused y → GivenBy y xs
 first-given [] y e = let z : _≡_ {A = ℕ} 0 1 = cc in absurd (omega arith)
@@ -40,7 +40,7 @@ given-first (x ∷ xs) y (here h w) = rw (h, w)
 given-first (x ∷ xs) y (later h g) = rw h (given-first xs y g)
 
 -- an answer that is right says no refusal
-right-says : (h : ℕ → Holding) (q f : ℕ) (a : Answer) → AnswerRight h q f a → (y : Refusal) → answerSays a ≡ refusalSays y → ⊥
+right-says : (h : ℕ → Content) (q f : ℕ) (a : Answer) → AnswerRight h q f a → (y : Refusal) → answerSays a ≡ refusalSays y → ⊥
 right-says h q f (answer.Refused x) ok y e = ok
 right-says h q f answer.Hit ok y e = let z : _≡_ {A = ℕ} 0 1 = cc in omega arith
 right-says h q f (answer.Fault None) ok y e = let z : _≡_ {A = ℕ} 0 1 = cc in omega arith
@@ -53,18 +53,19 @@ module _ (π : Policy) (ok : Lawful π) (means : (s : π .State) → π .sound s
   refused-says e = ap (λ (v : Verdict). leftBy π v x c .said) e
 
   -- the answer to a request that may be served
-  request-says : (op : Op) (q : ℕ) → π .sound (x .state) ≡ true → May π (x .state) q → answerSays (outcomeOf π op x q .answer) ≡ refusalSays y → ⊥
-  request-says op q t may e =
-      right-says (ok .holds (x .state)) q (outcomeOf π op x q .frame) (outcomeOf π op x q .answer) (ok .request op (costsIn π x) (x .state) q (means (x .state) t) may .right) y e
+  request-says : (op : Op) (q : ℕ) {fit : Bool} → RequestClear π x q fit → answerSays (outcomeOf π op x q .answer) ≡ refusalSays y → ⊥
+  request-says op q a e =
+      right-says (ok .content (x .state)) q (outcomeOf π op x q .frame) (outcomeOf π op x q .answer)
+      (ok .request op (costsIn π x) (x .state) q (means (x .state) (a .0)) (a .2) (a .1 .more) .right) y e
 
   pub says-refused : left π x c .said ≡ refusalSays y → verdictOf π x c ≡ Refused y
   says-refused =
-      call-cases π x c (λ l. l .said ≡ refusalSays y → verdictOf π x c ≡ Refused y) (λ z h e. h ∙ ap Refused (refusal-one-to-one z y e)) (λ h e. absurd (served-says c h e))
+      call-cases π x c (λ l. l .said ≡ refusalSays y → verdictOf π x c ≡ Refused y) (λ z h e. h ∙ ap Refused (refusal-one-to-one z y e))
+      (λ h e. absurd (served-says c h e))
     where
       served-says : (d : Call) → verdictOf π x d ≡ Fine → served π x d .said ≡ refusalSays y → ⊥
-      served-says (read q out) h e = let a = read-clear π x q out h in request-says Read q (a .sound) (record { inside = a .inside; more = a .more }) e
-      served-says (write q start bytes) h e =
-          let a = write-clear π x q start bytes h in request-says Write q (a .sound) (record { inside = a .inside; more = a .more }) e
+      served-says (read q out) h e = request-says Read q (read-clear π x q out h) e
+      served-says (write q start bytes) h e = request-says Write q (write-clear π x q start bytes h) e
       served-says flush h e = let z : _≡_ {A = ℕ} 0 1 = cc in omega arith
       served-says total h e = let z : _≡_ {A = ℕ} 0 1 = cc in omega arith
 

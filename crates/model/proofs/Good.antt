@@ -2,10 +2,10 @@
 -- Assumes nothing.
 use mathlib.Core.Path.{_≡_}
 use mathlib.Core.Logic.{dite}
+use mathlib.Core.List.{_++_}
 use Prim.Native.Nat.{ℕ, _+_, _≤_, _<_}
 use native.Mathlib.Decide.{decLt}
 use native.Mathlib.Omega.{arith}
-use mathlib.Core.List.{_++_}
 use lib.ListN.{length, getD, length-append, length-replicate, getD-replicate}
 use Rattle.order.proofs.Count.{count-append, count-here, count-downFrom-below, count-downFrom-above}
 use Rattle.model.specs.Numbers.{Numbers, Limits}

@@ -5,62 +5,60 @@
 --     call-right, run-right        and the bytes keep the history
 --     last-written                 a read that is served hands out the page as the history has it
 -- Assumes nothing.
-use mathlib.Core.Path.{_≡_, refl, sym, ap, _∙_, subst}
-use Prim.Native.Nat.{ℕ, _+_, _≤_, _<_}
+use mathlib.Core.Path.{_≡_, sym, ap, _∙_}
 use mathlib.Core.List.{List, [], _∷_}
+use Prim.Native.Nat.{ℕ, _+_, _≤_, _<_}
 use lib.ListN.{length, getD}
 use Rattle.order.specs.Count.{count}
 use Rattle.model.specs.Numbers.{Numbers, mostServed}
 use Rattle.model.specs.Target.{Costs}
 use Rattle.model.specs.Bytes.{Memory}
-use Rattle.model.specs.Moves.{Holding, Has, Buffer, History, laid, Keeps}
+use Rattle.model.specs.Moves.{Content, Has, Buffer, History, laid, Keeps}
 use Rattle.model.specs.Policy.{Outcome, Policy}
-use Rattle.model.specs.Run.{Call, read, write, flush, total, World, verdictOf, costsIn, outcomeOf, broughtIn, handedOut, writtenIn, served, left, leftBy, after, afterAll, toldBy, history}
+use Rattle.model.specs.Run.{Call, read, write, flush, total, World}
+use Rattle.model.specs.Run.{verdictOf, costsIn, outcomeOf, broughtIn, handedOut, writtenIn, served, left, leftBy, after, afterAll, toldBy, history}
 use Rattle.model.specs.declared.Op.{Op}
 use Rattle.model.specs.declared.Op.the-variants.{Read, Write}
 use Rattle.model.specs.declared.Verdict.{Verdict}
 use Rattle.model.specs.declared.Verdict.the-variants.{Fine}
-use Rattle.model.proofs.Outcomes.{VictimBelow, AnswerRight, holdsAfter, cleanedBy, keeps-same, read-keeps, read-has, write-keeps, flush-keeps}
-use Rattle.model.proofs.Refusals.{call-cases, read-clear, write-clear, flush-more, stretch-fits}
+use Rattle.model.proofs.Outcomes.{VictimBelow, AnswerRight, contentAfter, cleanedBy, keeps-same, read-keeps, read-has, write-keeps, flush-keeps}
+use Rattle.model.proofs.Refusals.{call-cases, read-clear, write-clear, flush-ready, stretch-fits}
 
 -- ---- what a policy owes
 
--- a request may be served, as far as state and page go
-pub record May (π : Policy) (s : π .State) (q : ℕ) : Type 0 where
-  pub inside : q < π .numbers s .N
-  pub more : π .counts s .served < mostServed
-
 -- a request for page q of state s has outcome o
-pub record Kept (π : Policy) (Good : π .State → Type 0) (holds : π .State → ℕ → Holding) (op : Op) (s : π .State) (q : ℕ) (o : Outcome (π .State)) : Type 0 where
+pub record Kept (π : Policy) (Good : π .State → Type 0) (content : π .State → ℕ → Content) (op : Op) (s : π .State) (q : ℕ)
+    (o : Outcome (π .State)) : Type 0 where
   pub same : π .numbers (o .state) ≡ π .numbers s
   pub good : Good (o .state)
   pub frame : o .frame < π .numbers s .b
   pub victim : VictimBelow (π .numbers s .N) (o .answer)
-  pub right : AnswerRight (holds s) q (o .frame) (o .answer)
-  pub holding : (f : ℕ) → holds (o .state) f ≡ holdsAfter op q (o .frame) (o .answer) (holds s) f
+  pub right : AnswerRight (content s) q (o .frame) (o .answer)
+  pub contents : (f : ℕ) → content (o .state) f ≡ contentAfter op q (o .frame) (o .answer) (content s) f
 
 -- a flush of state s
-pub record FlushKept (π : Policy) (Good : π .State → Type 0) (holds : π .State → ℕ → Holding) (s : π .State) : Type 0 where
+pub record FlushKept (π : Policy) (Good : π .State → Type 0) (content : π .State → ℕ → Content) (s : π .State) : Type 0 where
   pub same : π .numbers (π .flushed s) ≡ π .numbers s
   pub good : Good (π .flushed s)
-  pub right : (f : ℕ) → 1 ≤ count f (π .dirty s) → (getD (π .page s) f 0 < π .numbers s .N) × (f < π .numbers s .b) × Has (getD (π .page s) f 0) (holds s f)
-  pub holding : (f : ℕ) → cleanedBy (π .page s) (π .dirty s) (holds s) f ≡ holds (π .flushed s) f
+  pub right : (f : ℕ) → 1 ≤ count f (π .dirty s) → (getD (π .page s) f 0 < π .numbers s .N) × (f < π .numbers s .b) × Has (getD (π .page s) f 0) (content s f)
+  pub contents : (f : ℕ) → cleanedBy (π .page s) (π .dirty s) (content s) f ≡ content (π .flushed s) f
 
 pub record Lawful (π : Policy) : Type 1 where
   pub Good : π .State → Type 0
-  pub holds : π .State → ℕ → Holding
-  pub request : (op : Op) (k : Costs) (s : π .State) (q : ℕ) → Good s → May π s q → Kept π Good holds op s q (π .request op k s q)
-  pub flush : (s : π .State) → Good s → π .counts s .served < mostServed → FlushKept π Good holds s
+  pub content : π .State → ℕ → Content
+  pub request : (op : Op) (k : Costs) (s : π .State) (q : ℕ) → Good s → q < π .numbers s .N → π .counts s .served < mostServed
+      → Kept π Good content op s q (π .request op k s q)
+  pub flush : (s : π .State) → Good s → π .counts s .served < mostServed → FlushKept π Good content s
 
 module _ (π : Policy) (ok : Lawful π) where
   pub call-good : (x : World (π .State)) → ok .Good (x .state) → (c : Call) → ok .Good (left π x c .state)
   call-good x g c = call-cases π x c (λ l. ok .Good (l .state)) (λ y e. g) (good-served c)
     where
       good-served : (d : Call) → verdictOf π x d ≡ Fine → ok .Good (served π x d .state)
-      good-served (read q out) e = let a = read-clear π x q out e in ok .request Read (costsIn π x) (x .state) q g (record { inside = a .inside; more = a .more }) .good
+      good-served (read q out) e = let a = read-clear π x q out e in ok .request Read (costsIn π x) (x .state) q g (a .2) (a .1 .more) .good
       good-served (write q start bytes) e =
-          let a = write-clear π x q start bytes e in ok .request Write (costsIn π x) (x .state) q g (record { inside = a .inside; more = a .more }) .good
-      good-served flush e = ok .flush (x .state) g (flush-more π x e) .good
+          let a = write-clear π x q start bytes e in ok .request Write (costsIn π x) (x .state) q g (a .2) (a .1 .more) .good
+      good-served flush e = ok .flush (x .state) g (flush-ready π x e .1 .more) .good
       good-served total e = g
 
   pub run-good : (cs : List Call) (x : World (π .State)) → ok .Good (x .state) → ok .Good (afterAll π x cs .state)
@@ -70,82 +68,84 @@ module _ (π : Policy) (ok : Lawful π) where
   -- a good state over bytes that keep a history
   pub record Right (x : World (π .State)) (h : History) : Type 0 where
     pub good : ok .Good (x .state)
-    pub keeps : Keeps (π .numbers (x .state)) (record { holds = ok .holds (x .state); memory = x .memory }) h
+    pub keeps : Keeps (π .numbers (x .state)) (record { content = ok .content (x .state); memory = x .memory }) h
 
   module _ (x : World (π .State)) (h : History) (r : Right x h) where
     abbrev numbers : Numbers
     numbers = π .numbers (x .state)
 
     abbrev buffer : Buffer
-    buffer = record { holds = ok .holds (x .state); memory = x .memory }
+    buffer = record { content = ok .content (x .state); memory = x .memory }
 
     -- ---- a read or a write that may be served
 
-    module _ (q : ℕ) (may : May π (x .state) q) where
-      kept : (op : Op) → Kept π (ok .Good) (ok .holds) op (x .state) q (outcomeOf π op x q)
-      kept op = ok .request op (costsIn π x) (x .state) q (r .good) may
+    module _ (q : ℕ) (inside : q < numbers .N) (more : π .counts (x .state) .served < mostServed) where
+      abbrev outcome : Op → Outcome (π .State)
+      outcome op = outcomeOf π op x q
+
+      abbrev after-op : Op → ℕ → Content
+      after-op op = contentAfter op q (outcome op .frame) (outcome op .answer) (ok .content (x .state))
+
+      kept : (op : Op) → Kept π (ok .Good) (ok .content) op (x .state) q (outcome op)
+      kept op = ok .request op (costsIn π x) (x .state) q (r .good) inside more
 
       -- the state afterwards holds what the moves say, over the numbers that it has kept
-      afterwards : (op : Op) (m : Memory) (h′ : History)
-          → Keeps numbers (record { holds = holdsAfter op q (outcomeOf π op x q .frame) (outcomeOf π op x q .answer) (ok .holds (x .state)); memory = m }) h′
-          → Right (record { state = outcomeOf π op x q .state; memory = m }) h′
+      afterwards : (op : Op) (m : Memory) (h′ : History) → Keeps numbers (record { content = after-op op; memory = m }) h′
+          → Right (record { state = outcome op .state; memory = m }) h′
       afterwards op m h′ k =
-          record {
-            good = kept op .good;
-            keeps = subst (λ (z : Numbers). Keeps z (record { holds = ok .holds (outcomeOf π op x q .state); memory = m }) h′) (sym (kept op .same))
-                (keeps-same numbers _ _ m h′ (λ f. sym (kept op .holding f)) k);
-          }
+          record { good = kept op .good; keeps = rw (kept op .same) (keeps-same numbers _ _ m h′ (λ f. sym (kept op .contents f)) k) }
 
-      read-bytes : Keeps numbers
-          (record { holds = holdsAfter Read q (outcomeOf π Read x q .frame) (outcomeOf π Read x q .answer) (ok .holds (x .state)); memory = broughtIn π Read x q }) h
+      read-bytes : Keeps numbers (record { content = after-op Read; memory = broughtIn π Read x q }) h
       read-bytes =
-          read-keeps numbers buffer h (r .keeps) q (outcomeOf π Read x q .frame) (may .inside) (kept Read .frame) (outcomeOf π Read x q .answer)
-          (kept Read .right) (kept Read .victim)
+          let k = kept Read in
+          read-keeps numbers buffer h (r .keeps) q (outcome Read .frame) inside (k .frame) (outcome Read .answer) (k .right) (k .victim)
 
-      read-right : Right (record { state = outcomeOf π Read x q .state; memory = broughtIn π Read x q }) h
+      read-right : Right (record { state = outcome Read .state; memory = broughtIn π Read x q }) h
       read-right = afterwards Read (broughtIn π Read x q) h read-bytes
 
       pub read-hands-out : handedOut π x q ≡ h q
       read-hands-out =
-          read-bytes .held q (outcomeOf π Read x q .frame)
-          (read-has numbers buffer h (r .keeps) q (outcomeOf π Read x q .frame) (may .inside) (kept Read .frame) (outcomeOf π Read x q .answer) (kept Read .right))
+          read-bytes .in-frame q (outcome Read .frame)
+          (read-has numbers buffer h (r .keeps) q (outcome Read .frame) inside (kept Read .frame) (outcome Read .answer) (kept Read .right))
 
       write-right : (start : ℕ) (bytes : List ℕ) → start + length bytes ≤ numbers .P
-          → Right (record { state = outcomeOf π Write x q .state; memory = writtenIn π x q start bytes }) (laid q start bytes h)
+          → Right (record { state = outcome Write .state; memory = writtenIn π x q start bytes }) (laid q start bytes h)
       write-right start bytes fit =
           afterwards Write (writtenIn π x q start bytes) (laid q start bytes h)
-          (write-keeps numbers buffer h (r .keeps) q (outcomeOf π Write x q .frame) (may .inside) (kept Write .frame) start bytes fit
-          (outcomeOf π Write x q .answer) (kept Write .right) (kept Write .victim))
+          (write-keeps numbers buffer h (r .keeps) q (outcome Write .frame) inside (kept Write .frame) start bytes fit (outcome Write .answer)
+          (kept Write .right) (kept Write .victim))
 
     flush-right : π .counts (x .state) .served < mostServed → Right (record { state = π .flushed (x .state); memory = served π x flush .memory }) h
     flush-right more =
         let k = ok .flush (x .state) (r .good) more in
         record {
           good = k .good;
-          keeps = subst (λ (z : Numbers). Keeps z (record { holds = ok .holds (π .flushed (x .state)); memory = served π x flush .memory }) h) (sym (k .same))
-              (keeps-same numbers _ _ _ h (k .holding) (flush-keeps numbers buffer h (r .keeps) (π .page (x .state)) (π .dirty (x .state)) (k .right)));
+          keeps = rw (k .same)
+              (keeps-same numbers _ _ _ h (k .contents) (flush-keeps numbers buffer h (r .keeps) (π .page (x .state)) (π .dirty (x .state)) (k .right)));
         }
 
     -- ---- any call
 
     pub call-right : (c : Call) → Right (after π x c) (toldBy π (verdictOf π x c) c h)
     call-right c =
-        call-cases π x c (λ l. Right (record { state = l .state; memory = l .memory }) (toldBy π (verdictOf π x c) c h)) (λ y e. rw e r) (λ e. rw e (right-served c e))
+        call-cases π x c (λ l. Right (record { state = l .state; memory = l .memory }) (toldBy π (verdictOf π x c) c h))
+        (λ y e. rw e r) (λ e. rw e (right-served c e))
       where
         right-served : (d : Call) → verdictOf π x d ≡ Fine → Right (record { state = served π x d .state; memory = served π x d .memory }) (toldBy π Fine d h)
-        right-served (read q out) e = let a = read-clear π x q out e in read-right q (record { inside = a .inside; more = a .more })
+        right-served (read q out) e = let a = read-clear π x q out e in read-right q (a .2) (a .1 .more)
         right-served (write q start bytes) e =
             let a = write-clear π x q start bytes e in
-            write-right q (record { inside = a .inside; more = a .more }) start bytes (stretch-fits _ start (length bytes) (a .fit) .1)
-        right-served flush e = flush-right (flush-more π x e)
+            write-right q (a .2) (a .1 .more) start bytes (stretch-fits _ start (length bytes) (a .3) .1)
+        right-served flush e = flush-right (flush-ready π x e .1 .more)
         right-served total e = r
 
   pub run-right : (cs : List Call) (x : World (π .State)) (h : History) → Right x h → Right (afterAll π x cs) (history π x cs h)
   run-right [] x h r = r
   run-right (c ∷ cs) x h r = run-right cs (after π x c) (toldBy π (verdictOf π x c) c h) (call-right x h r c)
 
-  pub last-written : (x : World (π .State)) (h : History) → Right x h → (q : ℕ) (out : List ℕ) → verdictOf π x (read q out) ≡ Fine → left π x (read q out) .out ≡ h q
+  pub last-written : (x : World (π .State)) (h : History) → Right x h → (q : ℕ) (out : List ℕ)
+      → verdictOf π x (read q out) ≡ Fine → left π x (read q out) .out ≡ h q
   unfolding left
   last-written x h r q out e =
       let a = read-clear π x q out e in
-      ap (λ (v : Verdict). leftBy π v x (read q out) .out) e ∙ read-hands-out x h r q (record { inside = a .inside; more = a .more })
+      ap (λ (v : Verdict). leftBy π v x (read q out) .out) e ∙ read-hands-out x h r q (a .2) (a .1 .more)

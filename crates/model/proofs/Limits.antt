@@ -1,11 +1,11 @@
 -- The test on the numbers says what the inequalities say; and which numbers are meant by those that are given. Assumes nothing.
 use mathlib.Core.Path.{_≡_, refl, sym, _∙_}
-use mathlib.Core.Bool.{Bool, true, false, _&&_, false≢true}
+use mathlib.Core.Bool.{Bool, true, false, _&&_, false≢true, cond as if-else}
 use Prim.Native.Nat.{ℕ, _≤_}
 use native.Mathlib.Omega.{arith}
 use lib.Dec.{eqb, leb}
 use borrow.Author.Tests.{leb-true, le-leb, eqb-true, eq-eqb}
-use Rattle.model.specs.Numbers.{Numbers, if-else, between, inLimits, Limits, withUsualDrive, meant}
+use Rattle.model.specs.Numbers.{Numbers, between, inLimits, Limits, withUsualDrive, meant}
 use Rattle.model.proofs.Refusals.{and-both}
 
 both-and : {s t : Bool} → s ≡ true → t ≡ true → (s && t) ≡ true
@@ -17,9 +17,9 @@ between-means low x high e = let a = and-both _ _ e in (leb-true low x (a .0), l
 means-between : (low x high : ℕ) → low ≤ x → x ≤ high → between low x high ≡ true
 means-between low x high h k = both-and (le-leb low x h) (le-leb x high k)
 
-pub limits-hold : (n : Numbers) → inLimits n ≡ true → Limits n
+pub inLimits-limits : (n : Numbers) → inLimits n ≡ true → Limits n
 unfolding inLimits
-limits-hold n e =
+inLimits-limits n e =
     let b = and-both _ _ e in
     let P = and-both _ _ (b .1) in
     let N = and-both _ _ (P .1) in
@@ -42,9 +42,9 @@ limits-hold n e =
       w-high = hw .1;
     }
 
-pub hold-limits : (n : Numbers) → Limits n → inLimits n ≡ true
+pub limits-inLimits : (n : Numbers) → Limits n → inLimits n ≡ true
 unfolding inLimits
-hold-limits n l =
+limits-inLimits n l =
     both-and (means-between 1 (n .b) 64 (l .b-low) (l .b-high))
     (both-and (means-between 16 (n .P) 4096 (l .P-low) (l .P-high))
     (both-and (means-between 1 (n .N) 65536 (l .N-low) (l .N-high))
@@ -56,14 +56,14 @@ pub limits-refused : (n : Numbers) → (Limits n → ⊥) → false ≡ inLimits
 limits-refused n wrong = go (inLimits n) refl
   where
     go : (t : Bool) → inLimits n ≡ t → false ≡ t
-    go true e = absurd (wrong (limits-hold n e))
+    go true e = absurd (wrong (inLimits-limits n e))
     go false e = refl
 
 pub limits-last : (n : Numbers) → (n .w ≤ 1000 → Limits n) → leb (n .w) 1000 ≡ inLimits n
 limits-last n rest = go (leb (n .w) 1000) refl
   where
     go : (t : Bool) → leb (n .w) 1000 ≡ t → t ≡ inLimits n
-    go true e = sym (hold-limits n (rest (leb-true (n .w) 1000 e)))
+    go true e = sym (limits-inLimits n (rest (leb-true (n .w) 1000 e)))
     go false e = limits-refused n (λ l. false≢true (sym e ∙ le-leb (n .w) 1000 (l .w-high)))
 
 -- ---- the numbers that are meant
@@ -89,7 +89,7 @@ meant-limits n e = go (eqb (n .r) 0 && eqb (n .w) 0) refl e
     go : (t : Bool) → (eqb (n .r) 0 && eqb (n .w) 0) ≡ t → inLimits (if-else t (withUsualDrive n) n) ≡ true
         → (n .b ≤ 64) × (n .P ≤ 4096) × (n .N ≤ 65536) × (n .r ≤ 1000) × (n .w ≤ 1000)
     go true p h =
-        let l = limits-hold (withUsualDrive n) h in
+        let l = inLimits-limits (withUsualDrive n) h in
         let z = and-both _ _ p in
         (l .b-high, l .P-high, l .N-high, omega (arith, eqb-true (n .r) 0 (z .0)), omega (arith, eqb-true (n .w) 0 (z .1)))
-    go false p h = let l = limits-hold n h in (l .b-high, l .P-high, l .N-high, l .r-high, l .w-high)
+    go false p h = let l = inLimits-limits n h in (l .b-high, l .P-high, l .N-high, l .r-high, l .w-high)

@@ -4,16 +4,17 @@
 -- Assumes nothing.
 use mathlib.Core.Path.{_≡_, refl, sym, ap, _∙_, subst}
 use mathlib.Core.Logic.{_≢_, dite}
+use mathlib.Core.List.{List}
 use Prim.Native.Nat.{ℕ, _+_, _*_, _<_}
 use native.Mathlib.Decide.{ℕ-discrete}
-use mathlib.Core.List.{List, [], _∷_}
 use lib.ListN.{length, replicate, length-replicate}
 use borrow.Author.Tests.{eq-eqb, ne-eqb}
 use Rattle.pages.specs.Pages.{splice, pageOf, withPage, InPages}
 use Rattle.pages.proofs.Pages.{page-in, pageOf-length, withPage-length, splice-pageOf-length, pageOf-same, pageOf-other, withPage-overlay}
 use Rattle.model.specs.Numbers.{Numbers}
 use Rattle.model.specs.Bytes.{Memory}
-use Rattle.model.specs.Moves.{Holding, vacant, clean, dirty, Has, HasDirty, Loose, without, Buffer, put, Move, load, writeBack, edit, wipe, apply, Allowed, History, laid, told, Keeps}
+use Rattle.model.specs.Moves.{Content, vacant, clean, dirty, Has, HasDirty, Loose, without, Buffer, put}
+use Rattle.model.specs.Moves.{Move, load, writeBack, edit, wipe, apply, Allowed, History, laid, told, Keeps}
 
 -- ---- a function changed at one number
 
@@ -29,35 +30,31 @@ at-or-off T f here there g = dite (ℕ-discrete f g) (λ e. subst T e here) (λ 
 
 -- ---- what a frame has
 
-dirty-has : (p : ℕ) (v : Holding) → HasDirty p v → Has p v
+dirty-has : (p : ℕ) (v : Content) → HasDirty p v → Has p v
 dirty-has p vacant h = h
 dirty-has p (clean q) h = absurd h
 dirty-has p (dirty q) h = h
 
-loose-clean : (p : ℕ) (v : Holding) → Loose v → HasDirty p v → ⊥
+loose-clean : (p : ℕ) (v : Content) → Loose v → HasDirty p v → ⊥
 loose-clean p vacant l h = h
 loose-clean p (clean q) l h = h
 loose-clean p (dirty q) l h = l
 
 -- a frame has one page
-has-same : (p q : ℕ) (v : Holding) → Has p v → Has q v → p ≡ q
+has-same : (p q : ℕ) (v : Content) → Has p v → Has q v → p ≡ q
 has-same p q vacant h k = absurd h
 has-same p q (clean r) h k = sym h ∙ k
 has-same p q (dirty r) h k = sym h ∙ k
 
 -- a page that is gone is not there, and the others are
-without-has : (p q : ℕ) (v : Holding) → Has q (without p v) → (p ≢ q) × Has q v
+without-has : (p q : ℕ) (v : Content) → Has q (without p v) → (p ≢ q) × Has q v
 without-has p q vacant h = absurd h
 without-has p q (clean r) h =
-    dite (ℕ-discrete p r)
-    (λ e. absurd (rw (eq-eqb p r e) at h))
-    (λ n. let k : r ≡ q = rw (ne-eqb p r n) at h in (λ e. n (e ∙ sym k), k))
+    dite (ℕ-discrete p r) (λ e. absurd (rw (eq-eqb p r e) at h)) (λ n. let k : r ≡ q = rw (ne-eqb p r n) at h in (λ e. n (e ∙ sym k), k))
 without-has p q (dirty r) h =
-    dite (ℕ-discrete p r)
-    (λ e. absurd (rw (eq-eqb p r e) at h))
-    (λ n. let k : r ≡ q = rw (ne-eqb p r n) at h in (λ e. n (e ∙ sym k), k))
+    dite (ℕ-discrete p r) (λ e. absurd (rw (eq-eqb p r e) at h)) (λ n. let k : r ≡ q = rw (ne-eqb p r n) at h in (λ e. n (e ∙ sym k), k))
 
-without-dirty : (p q : ℕ) (v : Holding) → p ≢ q → HasDirty q v → HasDirty q (without p v)
+without-dirty : (p q : ℕ) (v : Content) → p ≢ q → HasDirty q v → HasDirty q (without p v)
 without-dirty p q vacant n h = absurd h
 without-dirty p q (clean r) n h = absurd h
 without-dirty p q (dirty r) n h = let m : p ≢ r = λ e. n (e ∙ h) in rw (ne-eqb p r m) h
@@ -71,30 +68,35 @@ module _ (n : Numbers) (x : Buffer) (h : History) (k : Keeps n x h) where
 
   -- ---- frame f comes to have page p alone, clean or dirty, and its bytes are `bytes`
 
-  module _ (p f : ℕ) (v : Holding) (fb : f < n .b) (only : (q : ℕ) → Has q v → p ≡ q) (alone : (g : ℕ) → f ≢ g → Has p (x .holds g) → ⊥) where
-    put-one : (q g j : ℕ) → Has q (put f v (x .holds) g) → Has q (put f v (x .holds) j) → g ≡ j
+  module _ (p f : ℕ) (v : Content) (fb : f < n .b) (only : (q : ℕ) → Has q v → p ≡ q) (alone : (g : ℕ) → f ≢ g → Has p (x .content g) → ⊥) where
+    put-one : (q g j : ℕ) → Has q (put f v (x .content) g) → Has q (put f v (x .content) j) → g ≡ j
     put-one q =
-        at-or-off (λ g. (j : ℕ) → Has q (put f v (x .holds) g) → Has q (put f v (x .holds) j) → g ≡ j) f
-        (at-or-off (λ j. Has q (put f v (x .holds) f) → Has q (put f v (x .holds) j) → f ≡ j) f (λ a b. refl)
+        at-or-off (λ g. (j : ℕ) → Has q (put f v (x .content) g) → Has q (put f v (x .content) j) → g ≡ j) f
+        (at-or-off (λ j. Has q (put f v (x .content) f) → Has q (put f v (x .content) j) → f ≡ j) f (λ a b. refl)
         (λ j m a b.
-        let e : p ≡ q = only q (rw (put-same f v (x .holds)) at a) in
-        absurd (alone j m (rw (e, ← (put-other f v (x .holds) j m)) b))))
-        (λ g m. at-or-off (λ j. Has q (put f v (x .holds) g) → Has q (put f v (x .holds) j) → g ≡ j) f
+        let e : p ≡ q = only q (rw (put-same f v (x .content)) at a) in
+        absurd (alone j m (rw (e, ← (put-other f v (x .content) j m)) b))))
+        (λ g m. at-or-off (λ j. Has q (put f v (x .content) g) → Has q (put f v (x .content) j) → g ≡ j) f
         (λ a b.
-        let e : p ≡ q = only q (rw (put-same f v (x .holds)) at b) in
-        absurd (alone g m (rw (e, ← (put-other f v (x .holds) g m)) a)))
-        (λ j l a b. k .one q g j (rw (put-other f v (x .holds) g m) at a) (rw (put-other f v (x .holds) j l) at b)))
+        let e : p ≡ q = only q (rw (put-same f v (x .content)) at b) in
+        absurd (alone g m (rw (e, ← (put-other f v (x .content) g m)) a)))
+        (λ j l a b. k .one q g j (rw (put-other f v (x .content) g m) at a) (rw (put-other f v (x .content) j l) at b)))
 
-    put-held : (bytes : List ℕ) (h′ : History) → length bytes ≡ n .P → bytes ≡ h′ p → ((q : ℕ) → p ≢ q → h q ≡ h′ q)
-        → (q g : ℕ) → Has q (put f v (x .holds) g) → pageOf (n .P) g (withPage (n .P) f bytes (x .memory .frames)) ≡ h′ q
-    put-held bytes h′ l e same q =
-        at-or-off (λ g. Has q (put f v (x .holds) g) → pageOf (n .P) g (withPage (n .P) f bytes (x .memory .frames)) ≡ h′ q) f
-        (λ a. pageOf-same (n .P) f bytes (x .memory .frames) l (frame-in f fb) ∙ e ∙ ap h′ (only q (rw (put-same f v (x .holds)) at a)))
+    put-there : (bytes : List ℕ) (h′ : History) → length bytes ≡ n .P → bytes ≡ h′ p → ((q : ℕ) → p ≢ q → h q ≡ h′ q)
+        → (q g : ℕ) → Has q (put f v (x .content) g) → pageOf (n .P) g (withPage (n .P) f bytes (x .memory .frames)) ≡ h′ q
+    put-there bytes h′ l e same q =
+        at-or-off (λ g. Has q (put f v (x .content) g) → pageOf (n .P) g (withPage (n .P) f bytes (x .memory .frames)) ≡ h′ q) f
+        (λ a. pageOf-same (n .P) f bytes (x .memory .frames) l (frame-in f fb) ∙ e ∙ ap h′ (only q (rw (put-same f v (x .content)) at a)))
         (λ g m a.
-        let b : Has q (x .holds g) = rw (put-other f v (x .holds) g m) at a in
+        let b : Has q (x .content g) = rw (put-other f v (x .content) g m) at a in
         pageOf-other (n .P) f g bytes (x .memory .frames) l (frame-in f fb) (λ d. m (sym d))
-        ∙ k .held q g b
+        ∙ k .in-frame q g b
         ∙ same q (λ d. alone g m (rw d b)))
+
+  -- frame f takes content v: where none has page q dirty afterwards, and f had not, none had
+  none-dirty : (q f : ℕ) (v : Content) → (HasDirty q (x .content f) → ⊥) → ((g : ℕ) → HasDirty q (put f v (x .content) g) → ⊥)
+      → (g : ℕ) → HasDirty q (x .content g) → ⊥
+  none-dirty q f v here none = at-or-off (λ g. HasDirty q (x .content g) → ⊥) f here (λ g m d. none g (rw (put-other f v (x .content) g m) d))
 
   -- ---- the four moves
 
@@ -106,12 +108,12 @@ module _ (n : Numbers) (x : Buffer) (h : History) (k : Keeps n x h) where
         frames = withPage-length (n .P) f bytes (x .memory .frames) l (frame-in f (ok .1)) ∙ k .frames;
         store = k .store;
         one = put-one p f (clean p) (ok .1) (λ q e. e) (λ g m. ok .3 g);
-        held = put-held p f (clean p) (ok .1) (λ q e. e) (λ g m. ok .3 g) bytes h l (k .stored p (ok .0) (λ g d. ok .3 g (dirty-has p (x .holds g) d))) (λ q m. refl);
-        stored = λ q ql none. k .stored q ql
-            (at-or-off (λ g. HasDirty q (x .holds g) → ⊥) f (loose-clean q (x .holds f) (ok .2)) (λ g m d. none g (rw (put-other f (clean p) (x .holds) g m) d)));
+        in-frame = put-there p f (clean p) (ok .1) (λ q e. e) (λ g m. ok .3 g) bytes h l
+            (k .stored p (ok .0) (λ g d. ok .3 g (dirty-has p (x .content g) d))) (λ q m. refl);
+        stored = λ q ql none. k .stored q ql (none-dirty q f (clean p) (loose-clean q (x .content f) (ok .2)) none);
       }
 
-  has-alone : (p f : ℕ) → Has p (x .holds f) → (g : ℕ) → f ≢ g → Has p (x .holds g) → ⊥
+  has-alone : (p f : ℕ) → Has p (x .content f) → (g : ℕ) → f ≢ g → Has p (x .content g) → ⊥
   has-alone p f a g m b = m (k .one p f g a b)
 
   back-keeps : (p f : ℕ) → Allowed n (writeBack p f) x → Keeps n (apply (n .P) (writeBack p f) x) h
@@ -122,16 +124,13 @@ module _ (n : Numbers) (x : Buffer) (h : History) (k : Keeps n x h) where
         frames = k .frames;
         store = withPage-length (n .P) p bytes (x .memory .store) l (stored-in p (ok .0)) ∙ k .store;
         one = put-one p f (clean p) (ok .1) (λ q e. e) (has-alone p f (ok .2));
-        held = λ q. at-or-off (λ g. Has q (put f (clean p) (x .holds) g) → pageOf (n .P) g (x .memory .frames) ≡ h q) f
-            (λ a. let e : p ≡ q = rw (put-same f (clean p) (x .holds)) at a in k .held q f (rw (← e) (ok .2)))
-            (λ g m a. k .held q g (rw (put-other f (clean p) (x .holds) g m) at a));
+        in-frame = λ q. at-or-off (λ g. Has q (put f (clean p) (x .content) g) → pageOf (n .P) g (x .memory .frames) ≡ h q) f
+            (λ a. let e : p ≡ q = rw (put-same f (clean p) (x .content)) at a in k .in-frame q f (rw (← e) (ok .2)))
+            (λ g m a. k .in-frame q g (rw (put-other f (clean p) (x .content) g m) at a));
         stored = λ q ql none. dite (ℕ-discrete q p)
-            (λ e. rw e (pageOf-same (n .P) p bytes (x .memory .store) l (stored-in p (ok .0)) ∙ k .held p f (ok .2)))
+            (λ e. rw e (pageOf-same (n .P) p bytes (x .memory .store) l (stored-in p (ok .0)) ∙ k .in-frame p f (ok .2)))
             (λ m. pageOf-other (n .P) p q bytes (x .memory .store) l (stored-in p (ok .0)) m
-            ∙ k .stored q ql
-            (at-or-off (λ g. HasDirty q (x .holds g) → ⊥) f
-            (λ d. m (has-same q p (x .holds f) (dirty-has q (x .holds f) d) (ok .2)))
-            (λ g o d. none g (rw (put-other f (clean p) (x .holds) g o) d))));
+            ∙ k .stored q ql (none-dirty q f (clean p) (λ d. m (has-same q p (x .content f) (dirty-has q (x .content f) d) (ok .2))) none));
       }
 
   edit-keeps : (p f start : ℕ) (bytes : List ℕ) → Allowed n (edit p f start bytes) x → Keeps n (apply (n .P) (edit p f start bytes) x) (laid p start bytes h)
@@ -142,19 +141,16 @@ module _ (n : Numbers) (x : Buffer) (h : History) (k : Keeps n x h) where
       let e : splice (f * n .P + start) bytes (x .memory .frames) ≡ withPage (n .P) f now′ (x .memory .frames) =
       withPage-overlay (n .P) f start bytes (x .memory .frames) (ok .1) (frame-in f (ok .0)) in
       let same : (q : ℕ) → p ≢ q → h q ≡ laid p start bytes h q = λ q m. rw (ne-eqb p q m) in
-      let here : now′ ≡ laid p start bytes h p = rw (eq-eqb p p refl) (ap (splice start bytes) (k .held p f (ok .2))) in
+      let here : now′ ≡ laid p start bytes h p = rw (eq-eqb p p refl) (ap (splice start bytes) (k .in-frame p f (ok .2))) in
       record {
         frames = ap length e ∙ withPage-length (n .P) f now′ (x .memory .frames) l (frame-in f (ok .0)) ∙ k .frames;
         store = k .store;
         one = put-one p f (dirty p) (ok .0) (λ q d. d) (has-alone p f (ok .2));
-        held = λ q g a. ap (pageOf (n .P) g) e ∙ put-held p f (dirty p) (ok .0) (λ q d. d) (has-alone p f (ok .2)) now′ (laid p start bytes h) l here same q g a;
+        in-frame = λ q g a. ap (pageOf (n .P) g) e
+            ∙ put-there p f (dirty p) (ok .0) (λ q d. d) (has-alone p f (ok .2)) now′ (laid p start bytes h) l here same q g a;
         stored = λ q ql none.
-            let m : p ≢ q = λ d. none f (rw (put-same f (dirty p) (x .holds)) d) in
-            k .stored q ql
-            (at-or-off (λ g. HasDirty q (x .holds g) → ⊥) f
-            (λ d. m (has-same p q (x .holds f) (ok .2) (dirty-has q (x .holds f) d)))
-            (λ g o d. none g (rw (put-other f (dirty p) (x .holds) g o) d)))
-            ∙ same q m;
+            let m : p ≢ q = λ d. none f (rw (put-same f (dirty p) (x .content)) d) in
+            k .stored q ql (none-dirty q f (dirty p) (λ d. m (has-same p q (x .content f) (ok .2) (dirty-has q (x .content f) d))) none) ∙ same q m;
       }
 
   wipe-keeps : (p : ℕ) → p < n .N → Keeps n (apply (n .P) (wipe p) x) (put p (replicate (n .P) 0) h)
@@ -164,13 +160,13 @@ module _ (n : Numbers) (x : Buffer) (h : History) (k : Keeps n x h) where
       record {
         frames = k .frames;
         store = withPage-length (n .P) p zeros (x .memory .store) l (stored-in p pl) ∙ k .store;
-        one = λ q f g a b. k .one q f g (without-has p q (x .holds f) a .1) (without-has p q (x .holds g) b .1);
-        held = λ q f a. let w = without-has p q (x .holds f) a in k .held q f (w .1) ∙ sym (put-other p zeros h q (w .0));
+        one = λ q f g a b. k .one q f g (without-has p q (x .content f) a .1) (without-has p q (x .content g) b .1);
+        in-frame = λ q f a. let w = without-has p q (x .content f) a in k .in-frame q f (w .1) ∙ sym (put-other p zeros h q (w .0));
         stored = λ q ql none. dite (ℕ-discrete p q)
             (λ e. subst (λ (z : ℕ). pageOf (n .P) z (withPage (n .P) p zeros (x .memory .store)) ≡ put p zeros h z) e
             (pageOf-same (n .P) p zeros (x .memory .store) l (stored-in p pl) ∙ sym (put-same p zeros h)))
             (λ m. pageOf-other (n .P) p q zeros (x .memory .store) l (stored-in p pl) (λ d. m (sym d))
-            ∙ k .stored q ql (λ g d. none g (without-dirty p q (x .holds g) m d))
+            ∙ k .stored q ql (λ g d. none g (without-dirty p q (x .content g) m d))
             ∙ sym (put-other p zeros h q m));
       }
 
@@ -182,6 +178,6 @@ module _ (n : Numbers) (x : Buffer) (h : History) (k : Keeps n x h) where
 
 -- from opening, with every frame vacant, each page is what the store first had
 pub vacant-keeps : (n : Numbers) (m : Memory) → length (m .frames) ≡ n .b * n .P → length (m .store) ≡ n .N * n .P
-    → Keeps n (record { holds = λ f. vacant; memory = m }) (λ p. pageOf (n .P) p (m .store))
+    → Keeps n (record { content = λ f. vacant; memory = m }) (λ p. pageOf (n .P) p (m .store))
 vacant-keeps n m hf hs =
-    record { frames = hf; store = hs; one = λ p f g a b. absurd a; held = λ p f a. absurd a; stored = λ p l none. refl }
+    record { frames = hf; store = hs; one = λ p f g a b. absurd a; in-frame = λ p f a. absurd a; stored = λ p l none. refl }

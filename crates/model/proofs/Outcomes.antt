@@ -3,17 +3,18 @@
 -- if the policy's answer is right about what the frame holds.
 -- Assumes nothing.
 use mathlib.Core.Path.{_≡_, refl, sym, ap, _∙_, subst}
-use mathlib.Core.Logic.{_≢_}
-use Prim.Native.Nat.{ℕ, _+_, _≤_, _<_}
-use native.Mathlib.Omega.{arith}
+use mathlib.Core.Logic.{_≢_, dite}
 use mathlib.Core.List.{List, [], _∷_}
+use Prim.Native.Nat.{ℕ, _+_, _≤_, _<_}
+use native.Mathlib.Decide.{ℕ-discrete}
+use native.Mathlib.Omega.{arith}
 use lib.ListN.{length, getD}
 use Rattle.order.specs.Count.{count}
 use Rattle.order.proofs.Count.{bit-same, bit-other}
 use Rattle.pages.specs.Memory.{writtenBack}
 use Rattle.model.specs.Numbers.{Numbers}
 use Rattle.model.specs.Bytes.{Memory, brought, overlaid, flushedBytes}
-use Rattle.model.specs.Moves.{Holding, clean, dirty, Has, Loose, Buffer, put, load, writeBack, edit, History, laid, Keeps}
+use Rattle.model.specs.Moves.{Content, clean, dirty, Has, Loose, Buffer, put, load, writeBack, edit, History, laid, Keeps}
 use Rattle.model.specs.declared.Op.{Op}
 use Rattle.model.specs.declared.Op.the-variants.{Read, Write}
 use Rattle.model.specs.declared.Victim.{Victim}
@@ -31,7 +32,7 @@ VictimBelow N (Fault (Clean q)) = q < N
 VictimBelow N (Fault (Dirty q)) = q < N
 
 -- the answer to a request for page q, served in frame f, is right about what frames hold
-abbrev pub AnswerRight : (ℕ → Holding) → ℕ → ℕ → Answer → Type 0
+abbrev pub AnswerRight : (ℕ → Content) → ℕ → ℕ → Answer → Type 0
 AnswerRight h q f (Refused x) = ⊥
 AnswerRight h q f Hit = Has q (h f)
 AnswerRight h q f (Fault None) = Loose (h f) × ((g : ℕ) → Has q (h g) → ⊥)
@@ -39,21 +40,21 @@ AnswerRight h q f (Fault (Clean p)) = Loose (h f) × ((g : ℕ) → Has q (h g) 
 AnswerRight h q f (Fault (Dirty p)) = Has p (h f) × ((g : ℕ) → Has q (h g) → ⊥)
 
 -- what frames hold after a request for page q that was served in frame f
-abbrev pub holdsAfter : Op → ℕ → ℕ → Answer → (ℕ → Holding) → ℕ → Holding
-holdsAfter Read q f (Refused x) h = h
-holdsAfter Read q f Hit h = h
-holdsAfter Read q f (Fault v) h = put f (clean q) h
-holdsAfter Write q f a h = put f (dirty q) h
+abbrev pub contentAfter : Op → ℕ → ℕ → Answer → (ℕ → Content) → ℕ → Content
+contentAfter Read q f (Refused x) h = h
+contentAfter Read q f Hit h = h
+contentAfter Read q f (Fault v) h = put f (clean q) h
+contentAfter Write q f a h = put f (dirty q) h
 
 -- and after a flush of the frames of a list
-abbrev pub cleanedBy : List ℕ → List ℕ → (ℕ → Holding) → ℕ → Holding
+abbrev pub cleanedBy : List ℕ → List ℕ → (ℕ → Content) → ℕ → Content
 cleanedBy page [] h = h
 cleanedBy page (f ∷ fs) h = put f (clean (getD page f 0)) (cleanedBy page fs h)
 
 -- only what each frame holds counts
-pub keeps-same : (n : Numbers) (a b : ℕ → Holding) (m : Memory) (h : History) → ((f : ℕ) → a f ≡ b f)
-    → Keeps n (record { holds = a; memory = m }) h → Keeps n (record { holds = b; memory = m }) h
-keeps-same n a b m h e k = subst (λ (z : Buffer). Keeps n z h) (λ i. record { holds = λ f. e f i; memory = m }) k
+pub keeps-same : (n : Numbers) (a b : ℕ → Content) (m : Memory) (h : History) → ((f : ℕ) → a f ≡ b f)
+    → Keeps n (record { content = a; memory = m }) h → Keeps n (record { content = b; memory = m }) h
+keeps-same n a b m h e k = subst (λ (z : Buffer). Keeps n z h) (λ i. record { content = λ f. e f i; memory = m }) k
 
 put-put : {A : Type 0} (f : ℕ) (a b : A) (h : ℕ → A) (g : ℕ) → put f a (put f b h) g ≡ put f a h g
 put-put f a b h =
@@ -61,70 +62,69 @@ put-put f a b h =
     (λ g n. put-other f a (put f b h) g n ∙ put-other f b h g n ∙ sym (put-other f a h g n))
 
 module _ (n : Numbers) (x : Buffer) (h : History) (k : Keeps n x h) (q f : ℕ) (ql : q < n .N) (fb : f < n .b) where
-  fault-keeps : (v : Victim) → AnswerRight (x .holds) q f (Fault v) → VictimBelow (n .N) (Fault v)
-      → Keeps n (record { holds = put f (clean q) (x .holds); memory = brought (n .P) f q (Fault v) (x .memory) }) h
+  fault-keeps : (v : Victim) → AnswerRight (x .content) q f (Fault v) → VictimBelow (n .N) (Fault v)
+      → Keeps n (record { content = put f (clean q) (x .content); memory = brought (n .P) f q (Fault v) (x .memory) }) h
   fault-keeps None ok below = move-keeps n x h k (load q f) (ql, fb, ok .0, ok .1)
   fault-keeps (Clean p) ok below = move-keeps n x h k (load q f) (ql, fb, ok .0, ok .1)
   fault-keeps (Dirty p) ok below =
-      keeps-same n _ _ _ h (put-put f (clean q) (clean p) (x .holds))
+      keeps-same n _ _ _ h (put-put f (clean q) (clean p) (x .content))
       (move-keeps n _ h (move-keeps n x h k (writeBack p f) (below, fb, ok .0)) (load q f) (
         ql,
         fb,
-        rw (put-same f (clean p) (x .holds)) tt,
-        at-or-off (λ g. Has q (put f (clean p) (x .holds) g) → ⊥) f
-            (λ a. let e : p ≡ q = rw (put-same f (clean p) (x .holds)) at a in ok .1 f (rw (← e) (ok .0)))
-            (λ g o a. ok .1 g (rw (put-other f (clean p) (x .holds) g o) at a)),
+        rw (put-same f (clean p) (x .content)) tt,
+        at-or-off (λ g. Has q (put f (clean p) (x .content) g) → ⊥) f
+            (λ a. let e : p ≡ q = rw (put-same f (clean p) (x .content)) at a in ok .1 f (rw (← e) (ok .0)))
+            (λ g o a. ok .1 g (rw (put-other f (clean p) (x .content) g o) at a)),
       ))
 
-  pub read-keeps : (a : Answer) → AnswerRight (x .holds) q f a → VictimBelow (n .N) a
-      → Keeps n (record { holds = holdsAfter Read q f a (x .holds); memory = brought (n .P) f q a (x .memory) }) h
+  pub read-keeps : (a : Answer) → AnswerRight (x .content) q f a → VictimBelow (n .N) a
+      → Keeps n (record { content = contentAfter Read q f a (x .content); memory = brought (n .P) f q a (x .memory) }) h
   read-keeps (Refused y) ok below = absurd ok
   read-keeps Hit ok below = k
   read-keeps (Fault v) ok below = fault-keeps v ok below
 
-  pub read-has : (a : Answer) → AnswerRight (x .holds) q f a → Has q (holdsAfter Read q f a (x .holds) f)
+  pub read-has : (a : Answer) → AnswerRight (x .content) q f a → Has q (contentAfter Read q f a (x .content) f)
   read-has (Refused y) ok = absurd ok
   read-has Hit ok = ok
-  read-has (Fault v) ok = rw (put-same f (clean q) (x .holds)) refl
+  read-has (Fault v) ok = rw (put-same f (clean q) (x .content)) refl
 
-  pub write-keeps : (start : ℕ) (bytes : List ℕ) → start + length bytes ≤ n .P → (a : Answer) → AnswerRight (x .holds) q f a → VictimBelow (n .N) a
-      → Keeps n (record { holds = holdsAfter Write q f a (x .holds); memory = overlaid (n .P) f start bytes (brought (n .P) f q a (x .memory)) }) (laid q start bytes h)
+  pub write-keeps : (start : ℕ) (bytes : List ℕ) → start + length bytes ≤ n .P → (a : Answer) → AnswerRight (x .content) q f a → VictimBelow (n .N) a
+      → Keeps n (record { content = contentAfter Write q f a (x .content); memory = overlaid (n .P) f start bytes (brought (n .P) f q a (x .memory)) })
+      (laid q start bytes h)
   write-keeps start bytes fit (Refused y) ok below = absurd ok
   write-keeps start bytes fit Hit ok below = move-keeps n x h k (edit q f start bytes) (fb, fit, ok)
   write-keeps start bytes fit (Fault v) ok below =
-      keeps-same n _ _ _ _ (put-put f (dirty q) (clean q) (x .holds))
-      (move-keeps n _ h (fault-keeps v ok below) (edit q f start bytes) (fb, fit, rw (put-same f (clean q) (x .holds)) refl))
+      keeps-same n _ _ _ _ (put-put f (dirty q) (clean q) (x .content))
+      (move-keeps n _ h (fault-keeps v ok below) (edit q f start bytes) (fb, fit, rw (put-same f (clean q) (x .content)) refl))
 
 -- ---- a flush
 
-cleanedBy-has : (page fs : List ℕ) (h : ℕ → Holding) (f : ℕ) → Has (getD page f 0) (h f) → Has (getD page f 0) (cleanedBy page fs h f)
+cleanedBy-has : (page fs : List ℕ) (h : ℕ → Content) (f : ℕ) → Has (getD page f 0) (h f) → Has (getD page f 0) (cleanedBy page fs h f)
 cleanedBy-has page [] h f a = a
 cleanedBy-has page (g ∷ fs) h f a =
-    at-or-off (λ j. Has (getD page j 0) (cleanedBy page fs h j) → Has (getD page j 0) (put g (clean (getD page g 0)) (cleanedBy page fs h) j)) g
-    (λ b. rw (put-same g (clean (getD page g 0)) (cleanedBy page fs h)) refl)
-    (λ j n b. rw (put-other g (clean (getD page g 0)) (cleanedBy page fs h) j n) b)
-    f (cleanedBy-has page fs h f a)
+    dite (ℕ-discrete g f)
+    (λ e. rw (← e, put-same g (clean (getD page g 0)) (cleanedBy page fs h)) refl)
+    (λ n. rw (put-other g (clean (getD page g 0)) (cleanedBy page fs h) f n) (cleanedBy-has page fs h f a))
 
-pub cleanedBy-in : (page fs : List ℕ) (h : ℕ → Holding) (f : ℕ) → 1 ≤ count f fs → cleanedBy page fs h f ≡ clean (getD page f 0)
+pub cleanedBy-in : (page fs : List ℕ) (h : ℕ → Content) (f : ℕ) → 1 ≤ count f fs → cleanedBy page fs h f ≡ clean (getD page f 0)
 cleanedBy-in page [] h f l = absurd (omega arith)
 cleanedBy-in page (g ∷ fs) h f l =
-    at-or-off (λ j. (1 ≤ count j fs → cleanedBy page fs h j ≡ clean (getD page j 0)) → 1 ≤ count j (g ∷ fs) → put g (clean (getD page g 0)) (cleanedBy page fs h) j ≡ clean (getD page j 0)) g
-    (λ ih m. put-same g (clean (getD page g 0)) (cleanedBy page fs h))
-    (λ j n ih m. put-other g (clean (getD page g 0)) (cleanedBy page fs h) j n ∙ ih (omega (arith, bit-other g j n)))
-    f (cleanedBy-in page fs h f) l
+    dite (ℕ-discrete g f)
+    (λ e. rw (← e) (put-same g (clean (getD page g 0)) (cleanedBy page fs h)))
+    (λ n. put-other g (clean (getD page g 0)) (cleanedBy page fs h) f n ∙ cleanedBy-in page fs h f (omega (arith, bit-other g f n)))
 
-pub cleanedBy-out : (page fs : List ℕ) (h : ℕ → Holding) (f : ℕ) → count f fs ≡ 0 → cleanedBy page fs h f ≡ h f
+pub cleanedBy-out : (page fs : List ℕ) (h : ℕ → Content) (f : ℕ) → count f fs ≡ 0 → cleanedBy page fs h f ≡ h f
 cleanedBy-out page [] h f e = refl
 cleanedBy-out page (g ∷ fs) h f e =
     let n : g ≢ f = λ (d : g ≡ f). omega (arith, bit-same g, ap (λ (z : ℕ). count z (g ∷ fs)) d) in
     put-other g (clean (getD page g 0)) (cleanedBy page fs h) f n ∙ cleanedBy-out page fs h f (omega arith)
 
 pub flush-keeps : (n : Numbers) (x : Buffer) (h : History) → Keeps n x h → (page fs : List ℕ)
-    → ((f : ℕ) → 1 ≤ count f fs → (getD page f 0 < n .N) × (f < n .b) × Has (getD page f 0) (x .holds f))
-    → Keeps n (record { holds = cleanedBy page fs (x .holds); memory = flushedBytes (n .P) page fs (x .memory) }) h
+    → ((f : ℕ) → 1 ≤ count f fs → (getD page f 0 < n .N) × (f < n .b) × Has (getD page f 0) (x .content f))
+    → Keeps n (record { content = cleanedBy page fs (x .content); memory = flushedBytes (n .P) page fs (x .memory) }) h
 unfolding writtenBack
 flush-keeps n x h k page [] all = k
 flush-keeps n x h k page (f ∷ fs) all =
     let a = all f (omega (arith, bit-same f)) in
     move-keeps n _ h (flush-keeps n x h k page fs (λ g l. all g (omega arith))) (writeBack (getD page f 0) f)
-    (a .0, a .1, cleanedBy-has page fs (x .holds) f (a .2))
+    (a .0, a .1, cleanedBy-has page fs (x .content) f (a .2))

@@ -1,14 +1,14 @@
 -- A call that no row refuses: none of the conditions holds. Assumes nothing.
 use mathlib.Core.Path.{_≡_, refl, sym}
 use mathlib.Core.Bool.{Bool, true, false, not, _&&_}
-use Prim.Native.Nat.{ℕ, _+_, _*_, _≤_, _<_}
-use native.Mathlib.Omega.{arith}
 use mathlib.Core.List.{List, [], _∷_}
+use Prim.Native.Nat.{ℕ, _+_, _≤_, _<_}
+use native.Mathlib.Omega.{arith}
 use lib.ListN.{length}
 use borrow.Author.Tests.{leb-true, leb-false, ltb-true}
 use Rattle.pages.proofs.Memory.{sizesMatch-sound}
 use Rattle.model.specs.Numbers.{Numbers, mostServed}
-use Rattle.model.specs.Refusals.{Row, verdictBy, first, brokenPool, requestRows, flushRows, requestVerdict, flushVerdict, outputFits, stretchFits}
+use Rattle.model.specs.Refusals.{Row, verdictBy, first, brokenPool, requestRows, flushRows, requestVerdict, flushVerdict, outputFits, stretchFits, Ready}
 use Rattle.model.specs.Policy.{Policy}
 use Rattle.model.specs.Run.{Call, read, write, flush, World, Left, verdictOf, served, leftBy, left}
 use Rattle.model.specs.declared.Refusal.{Refusal}
@@ -36,43 +36,25 @@ pub and-both : (s t : Bool) → (s && t) ≡ true → (s ≡ true) × (t ≡ tru
 and-both true t e = (refl, e)
 and-both false t e = let z : _≡_ {A = ℕ} 0 1 = cc in absurd (omega arith)
 
--- a read or a write that is served
-pub record Clear (isSound : Bool) (a : Numbers) (served m n page : ℕ) (fits : Bool) : Type 0 where
-  pub sound : isSound ≡ true
-  pub frames : m ≡ a .b * a .P
-  pub store : n ≡ a .N * a .P
-  pub inside : page < a .N
-  pub fit : fits ≡ true
-  pub more : served < mostServed
-
+-- of a read or a write
 pub request-clear : (sound : Bool) (a : Numbers) (served m n page : ℕ) (fit : Bool) → requestVerdict sound a served m n page fit ≡ Fine
-    → Clear sound a served m n page fit
+    → (sound ≡ true) × Ready a served m n × (page < a .N) × (fit ≡ true)
 unfolding requestVerdict
 request-clear sound a served m n page fit e =
     let c = first-clear (brokenPool sound ∷ requestRows a served m n page fit) e in
-    let z = sizesMatch-sound (a .P) (a .b) (a .N) m n (not-false _ (c .1 .0)) in
-    record {
-      sound = not-false sound (c .0);
-      frames = z .0;
-      store = z .1;
-      inside = leb-false (a .N) page (c .1 .1 .0);
-      fit = not-false fit (c .1 .1 .1 .0);
-      more = leb-false mostServed served (c .1 .1 .1 .1 .0);
-    }
+    let z = sizesMatch-sound (a .P) (a .b) (a .N) m n (not-false _ (c .1 .0)) in (
+      not-false sound (c .0),
+      record { frames = z .0; store = z .1; more = leb-false mostServed served (c .1 .1 .1 .1 .0) },
+      leb-false (a .N) page (c .1 .1 .0),
+      not-false fit (c .1 .1 .1 .0),
+    )
 
--- a flush that is served
-pub record FlushClear (isSound : Bool) (a : Numbers) (served m n : ℕ) : Type 0 where
-  pub sound : isSound ≡ true
-  pub frames : m ≡ a .b * a .P
-  pub store : n ≡ a .N * a .P
-  pub more : served < mostServed
-
-pub flush-clear : (sound : Bool) (a : Numbers) (served m n : ℕ) → flushVerdict sound a served m n ≡ Fine → FlushClear sound a served m n
+pub flush-clear : (sound : Bool) (a : Numbers) (served m n : ℕ) → flushVerdict sound a served m n ≡ Fine → (sound ≡ true) × Ready a served m n
 unfolding flushVerdict
 flush-clear sound a served m n e =
     let c = first-clear (brokenPool sound ∷ flushRows a served m n) e in
     let z = sizesMatch-sound (a .P) (a .b) (a .N) m n (not-false _ (c .1 .0)) in
-    record { sound = not-false sound (c .0); frames = z .0; store = z .1; more = leb-false mostServed served (c .1 .1 .0) }
+    (not-false sound (c .0), record { frames = z .0; store = z .1; more = leb-false mostServed served (c .1 .1 .0) })
 
 -- a stretch that fits has bytes and ends within the page
 pub stretch-fits : (P start n : ℕ) → stretchFits P start n ≡ true → (0 < n) × (start + n ≤ P)
@@ -82,29 +64,32 @@ stretch-fits P start n e = let a = and-both _ _ e in (ltb-true 0 n (a .0), leb-t
 
 module _ (π : Policy) (x : World (π .State)) where
   -- what holds of a call's leavings: refused, it leaves everything; else it is served
-  pub call-cases : (c : Call) (Holds : Left (π .State) → Type 0) → ((y : Refusal) → verdictOf π x c ≡ Refused y → Holds (leftBy π (Refused y) x c))
-      → (verdictOf π x c ≡ Fine → Holds (served π x c)) → Holds (left π x c)
+  pub call-cases : (c : Call) (P : Left (π .State) → Type 0) → ((y : Refusal) → verdictOf π x c ≡ Refused y → P (leftBy π (Refused y) x c))
+      → (verdictOf π x c ≡ Fine → P (served π x c)) → P (left π x c)
   unfolding left
-  call-cases c Holds refused served = go (verdictOf π x c) refl
+  call-cases c P refused served = go (verdictOf π x c) refl
     where
-      go : (v : Verdict) → verdictOf π x c ≡ v → Holds (leftBy π v x c)
+      go : (v : Verdict) → verdictOf π x c ≡ v → P (leftBy π v x c)
       go (Refused y) e = refused y e
       go Fine e = served e
 
+  -- the lent memory is of the right size, and a call more may be served
+  abbrev pub ReadyIn : Type 0
+  ReadyIn = Ready (π .numbers (x .state)) (π .counts (x .state) .served) (length (x .memory .frames)) (length (x .memory .store))
+
+  -- what a request for page q that is served may count on
   abbrev pub RequestClear : ℕ → Bool → Type 0
-  RequestClear q fit =
-      Clear (π .sound (x .state)) (π .numbers (x .state)) (π .counts (x .state) .served) (length (x .memory .frames)) (length (x .memory .store)) q fit
+  RequestClear q fit = (π .sound (x .state) ≡ true) × ReadyIn × (q < π .numbers (x .state) .N) × (fit ≡ true)
 
   pub read-clear : (q : ℕ) (out : List ℕ) → verdictOf π x (read q out) ≡ Fine → RequestClear q (outputFits (π .numbers (x .state) .P) (length out))
   unfolding requestVerdict
-  read-clear q out e = request-clear (π .sound (x .state)) (π .numbers (x .state)) (π .counts (x .state) .served) _ _ q (outputFits (π .numbers (x .state) .P) (length out)) e
+  read-clear q out e = request-clear (π .sound (x .state)) (π .numbers (x .state)) (π .counts (x .state) .served) _ _ q _ e
 
   pub write-clear : (q start : ℕ) (bytes : List ℕ) → verdictOf π x (write q start bytes) ≡ Fine
       → RequestClear q (stretchFits (π .numbers (x .state) .P) start (length bytes))
   unfolding requestVerdict
-  write-clear q start bytes e =
-      request-clear (π .sound (x .state)) (π .numbers (x .state)) (π .counts (x .state) .served) _ _ q (stretchFits (π .numbers (x .state) .P) start (length bytes)) e
+  write-clear q start bytes e = request-clear (π .sound (x .state)) (π .numbers (x .state)) (π .counts (x .state) .served) _ _ q _ e
 
-  pub flush-more : verdictOf π x flush ≡ Fine → π .counts (x .state) .served < mostServed
+  pub flush-ready : verdictOf π x flush ≡ Fine → (π .sound (x .state) ≡ true) × ReadyIn
   unfolding flushVerdict
-  flush-more e = flush-clear (π .sound (x .state)) (π .numbers (x .state)) (π .counts (x .state) .served) _ _ e .more
+  flush-ready e = flush-clear (π .sound (x .state)) (π .numbers (x .state)) (π .counts (x .state) .served) _ _ e

@@ -5,31 +5,32 @@
 --     states-framed    so CASA's states are framed
 -- Assumes nothing.
 use mathlib.Core.Path.{_≡_, refl, sym}
-use mathlib.Core.Bool.{Bool, true, false}
+use mathlib.Core.Bool.{Bool, true, false, cond as if-else}
 use mathlib.Core.Logic.{_≢_, dite}
+use mathlib.Core.List.{List, _∷_}
 use Prim.Native.Nat.{ℕ, zero, suc, _+_, _-_, _*_, _≤_, _<_}
 use native.Mathlib.Nat.{min-le-right}
 use native.Mathlib.Decide.{decLt}
 use native.Mathlib.Omega.{arith}
-use mathlib.Core.List.{List, [], _∷_, _++_}
 use lib.ListN.{length, getD}
-use lib.Dec.{eqb, ltb}
+use lib.Dec.{ltb}
 use borrow.Author.Tests.{ltb-true, ltb-false}
 use Rattle.order.specs.Lists.{removeAt, moveToFront}
-use Rattle.order.specs.Count.{bit, count}
+use Rattle.order.specs.Count.{count}
 use Rattle.order.specs.Find.{findFrom}
 use Rattle.order.specs.declared.Found.{Found}
 use Rattle.order.specs.declared.Found.the-variants.{At, Nowhere}
 use Rattle.order.proofs.Search.{findFrom-below, findFrom-at, findFrom-none}
 use Rattle.order.proofs.Count.{bit-same, bit-other, count-append, count-removeAt, count-moveToFront, count-other, count-here}
-use Rattle.model.specs.Numbers.{unit, mostServed, if-else}
+use Rattle.model.specs.Numbers.{unit, mostServed}
 use Rattle.model.specs.Target.{Costs, up, down, adjust, aboveTarget}
 use Rattle.model.specs.Counts.{countedBy}
-use Rattle.model.specs.Frames.{Blank, HitMark, FaultMark, VictimOf, Step}
+use Rattle.model.specs.Frames.{Blank, HitMark, VictimOf, Step}
 use Rattle.model.specs.Policy.{Outcome}
-use Rattle.model.specs.State.{State, withLists, withTarget, counted, pageIn, resident, standing, framesOf}
+use Rattle.model.specs.State.{State, withLists, withTarget, pageIn, resident, framesOf}
 use Rattle.model.specs.Good.{Good}
-use Rattle.model.specs.Request.{placeBy, locate, chosenBy, ChoiceIn, chosen, taken, writesOf, hit, loaded, faultInto, faulted, requestAt, request, flushed, states}
+use Rattle.model.specs.Request.{placeBy, locate, chosenBy, ChoiceIn, chosen, taken, writesOf}
+use Rattle.model.specs.Request.{hit, faultInto, faulted, requestAt, request, flushed, states}
 use Rattle.model.specs.declared.Op.{Op}
 use Rattle.model.specs.declared.Op.the-variants.{Read, Write}
 use Rattle.model.specs.declared.Place.{Place}
@@ -38,8 +39,7 @@ use Rattle.model.specs.declared.Choice.{Choice}
 use Rattle.model.specs.declared.Choice.the-variants.{OfEmpty, OfClean, OfDirty}
 use Rattle.model.specs.declared.Victim.{Victim}
 use Rattle.model.specs.declared.Victim.the-variants.{None, Clean, Dirty}
-use Rattle.model.proofs.LastWritten.{May}
-use Rattle.model.proofs.Frames.{same-placed, step-placed, step-blank, counts-in, Leaves, leaves-step}
+use Rattle.model.proofs.Frames.{placed-same, step-placed, step-blank, counts-in, Leaves, leaves-step}
 use Rattle.model.proofs.Framed.{Stepped, FlushStepped, Framed}
 use Rattle.model.proofs.Good.{standing-once, lengths-sum}
 
@@ -87,7 +87,7 @@ pub record Whole (s : State) : Type 0 where
 abbrev CasaStepped : Op → State → ℕ → Outcome State → Type 0
 CasaStepped op s q o = Stepped states Whole framesOf op s q o
 
-module _ (s : State) (w : Whole s) (q : ℕ) (may : May states s q) where
+module _ (s : State) (w : Whole s) (q : ℕ) (q-inside : q < s .numbers .N) (more : s .counts .served < mostServed) where
   -- a step that keeps the numbers and holds target and counts within their limits leaves a good state
   after-step : (op : Op) (o : Outcome State) (reads writes : ℕ) → Step op q (o .frame) (o .answer) (framesOf s) (framesOf (o .state))
       → s .numbers ≡ o .state .numbers → o .state .target ≤ s .numbers .b * unit
@@ -100,9 +100,9 @@ module _ (s : State) (w : Whole s) (q : ℕ) (may : May states s q) where
         good = record {
           good = record {
             limits = rw e at (g .limits);
-            placed = rw e at (step-placed (s .numbers) (framesOf s) (g .placed) (framesOf (o .state)) op q (o .frame) (o .answer) t (may .inside));
+            placed = rw e at (step-placed (s .numbers) (framesOf s) (g .placed) (framesOf (o .state)) op q (o .frame) (o .answer) t q-inside);
             target-high = rw e at top;
-            counts = rw (e, c) at (counts-in (s .numbers) (s .counts) (g .counts) (may .more) reads writes one few);
+            counts = rw (e, c) at (counts-in (s .numbers) (s .counts) (g .counts) more reads writes one few);
           };
           blank = step-blank (s .numbers) (framesOf s) (g .placed) (framesOf (o .state)) op q (o .frame) (o .answer) t (w .blank);
         };
@@ -122,7 +122,8 @@ module _ (s : State) (w : Whole s) (q : ℕ) (may : May states s q) where
 
   module _ (away : (f : ℕ) → 1 ≤ resident (s .lists) f → pageIn s f ≢ q) where
     module _ (E C D : List ℕ) (f : ℕ) (v : Victim) (l : Leaves (framesOf s) (λ h. count h E) (λ h. count h C + count h D) f)
-        (dirty-off : (h : ℕ) → f ≢ h → count h D ≡ count h (s .lists .D)) (victim : VictimOf v (resident (s .lists) f) (count f (s .lists .D)) (pageIn s f)) where
+        (dirty-off : (h : ℕ) → f ≢ h → count h D ≡ count h (s .lists .D))
+        (victim : VictimOf v (resident (s .lists) f) (count f (s .lists .D)) (pageIn s f)) where
       few : (v : Victim) → writesOf v ≤ s .numbers .b
       few None = omega arith
       few (Clean p) = omega arith
@@ -143,7 +144,8 @@ module _ (s : State) (w : Whole s) (q : ℕ) (may : May states s q) where
           (λ h. omega arith) away victim refl (omega (arith, bit-same f)) (λ h n. omega (arith, dirty-off h n, bit-other f h n)))
           refl (w .good .target-high) refl (omega arith) (few v)
 
-    taken-stepped : (op : Op) (k : Choice) → ChoiceIn (length (s .lists .E)) (length (s .lists .C)) (length (s .lists .D)) k → CasaStepped op s q (faultInto op q (taken s k))
+    taken-stepped : (op : Op) (k : Choice) → ChoiceIn (length (s .lists .E)) (length (s .lists .C)) (length (s .lists .D)) k
+        → CasaStepped op s q (faultInto op q (taken s k))
     taken-stepped op (OfEmpty i) h =
         let f : ℕ = getD (s .lists .E) i 0 in
         back-stepped (removeAt i (s .lists .E)) (s .lists .C) (s .lists .D) f None
@@ -170,13 +172,14 @@ module _ (s : State) (w : Whole s) (q : ℕ) (may : May states s q) where
       absent : (o : Op) → PlaceRight s q Absent → CasaStepped o s q (faulted o s q)
       absent o p =
           taken-stepped p o (chosen s)
-          (chosen-in (length (s .lists .E)) (length (s .lists .C)) (length (s .lists .D)) (s .target) (omega (arith, lengths-sum s (w .good), w .good .limits .b-low)))
+          (chosen-in (length (s .lists .E)) (length (s .lists .C)) (length (s .lists .D)) (s .target)
+          (omega (arith, lengths-sum s (w .good), w .good .limits .b-low)))
 
       go : (o : Op) (x : Place) → PlaceRight s q x → CasaStepped o s q (requestAt o k s q x)
       go Read (InClean i) p =
           let c = count-here (s .lists .C) i (p .0) in
-          hit-stepped Read (moveToFront i (s .lists .C)) (s .lists .D) (adjust (s .numbers .b) (s .target) (up k (length (s .lists .C)) (length (s .lists .D)))) _
-          (omega arith) (p .1) (λ h. omega (arith, count-moveToFront h (s .lists .C) i (p .0))) refl (λ h n. refl) (min-le-right _ _)
+          hit-stepped Read (moveToFront i (s .lists .C)) (s .lists .D) (adjust (s .numbers .b) (s .target) (up k (length (s .lists .C)) (length (s .lists .D))))
+          _ (omega arith) (p .1) (λ h. omega (arith, count-moveToFront h (s .lists .C) i (p .0))) refl (λ h n. refl) (min-le-right _ _)
       go Write (InClean i) p =
           let f : ℕ = getD (s .lists .C) i 0 in
           let c = count-here (s .lists .C) i (p .0) in
@@ -186,7 +189,8 @@ module _ (s : State) (w : Whole s) (q : ℕ) (may : May states s q) where
       go Write (InDirty i) p =
           let f : ℕ = getD (s .lists .D) i 0 in
           let c = count-here (s .lists .D) i (p .0) in
-          hit-stepped Write (s .lists .C) (moveToFront i (s .lists .D)) (adjust (s .numbers .b) (s .target) (down k (length (s .lists .C)) (length (s .lists .D)))) f
+          hit-stepped Write (s .lists .C) (moveToFront i (s .lists .D))
+          (adjust (s .numbers .b) (s .target) (down k (length (s .lists .C)) (length (s .lists .D)))) f
           (omega arith) (p .1) (λ h. omega (arith, count-moveToFront h (s .lists .D) i (p .0))) (omega (arith, bit-same f))
           (λ h n. count-moveToFront h (s .lists .D) i (p .0)) (omega (arith, w .good .target-high))
       go Read (InDirty i) p =
@@ -210,7 +214,7 @@ flush-stepped s w more =
       good = record {
         good = record {
           limits = g .limits;
-          placed = same-placed (s .numbers) (framesOf s) (g .placed) (framesOf (flushed s)) (λ f. refl) same refl;
+          placed = placed-same (s .numbers) (framesOf s) (g .placed) (framesOf (flushed s)) (λ f. refl) same refl;
           target-high = g .target-high;
           counts = counts-in (s .numbers) (s .counts) (g .counts) more 0 (length (s .lists .D)) (omega arith) (omega (arith, lengths-sum s g));
         };
@@ -225,6 +229,6 @@ states-framed =
       frames = framesOf;
       placed = λ s w. w .good .placed;
       pages = λ s. refl;
-      request = λ op k s q w may. request-stepped s w q may op k;
+      request = λ op k s q w inside more. request-stepped s w q inside more op k;
       flush = flush-stepped;
     }

@@ -1,12 +1,14 @@
 -- No two cases of an answer say the same: what an answer says leads back to it. Assumes nothing.
 use mathlib.Core.Path.{_≡_, refl, sym, ap, _∙_}
-use Prim.Native.Nat.{ℕ}
 use mathlib.Core.List.{List, [], _∷_}
+use Prim.Native.Nat.{ℕ}
 use lib.ListN.{getD}
-use Rattle.model.specs.Words.{Said, refused, opened, hit, fault, faultClean, faultDirty, flushed, total, numberOf, namedBy, refusalSays, answerSays, openingSays, flushingSays, costingSays}
+use Rattle.model.specs.Words.{Said, refused, opened, hit, fault, faultClean, faultDirty, flushed, total}
+use Rattle.model.specs.Words.{numberOf, namedBy, refusalSays, answerSays, openingSays, flushingSays, costingSays}
 use Rattle.model.specs.declared.Victim.the-variants.{None, Clean, Dirty}
 use Rattle.model.specs.declared.Refusal.{Refusal}
-use Rattle.model.specs.declared.Refusal.the-variants.{OutOfLimits, BrokenPool, WrongMemory, NoSuchPage, WrongBytes, Spent, NotATrace, BadRecord, LongFile, LargePool}
+use Rattle.model.specs.declared.Refusal.the-variants.{OutOfLimits, BrokenPool, WrongMemory, NoSuchPage, WrongBytes, Spent}
+use Rattle.model.specs.declared.Refusal.the-variants.{NotATrace, BadRecord, LongFile, LargePool}
 use Rattle.model.specs.declared.Answer.{Answer}
 use Rattle.model.specs.declared.Answer.the-variants as answer
 use Rattle.model.specs.declared.Opening.{Opening}
@@ -24,7 +26,8 @@ one-to-one f back home x y e = sym (home x) ∙ ap back e ∙ home y
 
 abbrev refusalBy : ℕ → List ℕ → Refusal
 refusalBy n ks =
-    getD (Spent ∷ OutOfLimits ∷ BrokenPool ∷ WrongMemory ∷ NoSuchPage ∷ WrongBytes ∷ Spent ∷ NotATrace ∷ BadRecord (getD ks 0 0) ∷ LongFile ∷ LargePool ∷ []) n Spent
+    let from-7 = NotATrace ∷ BadRecord (getD ks 0 0) ∷ LongFile ∷ LargePool ∷ [] in
+    getD (Spent ∷ OutOfLimits ∷ BrokenPool ∷ WrongMemory ∷ NoSuchPage ∷ WrongBytes ∷ Spent ∷ from-7) n Spent
 
 refusal-home : (x : Refusal) → refusalBy (numberOf x) (namedBy x) ≡ x
 refusal-home OutOfLimits = refl
@@ -38,16 +41,19 @@ refusal-home (BadRecord k) = refl
 refusal-home LongFile = refl
 refusal-home LargePool = refl
 
--- what is said when something is refused
+-- what is said, by what to make of a refusal, of a flush and of a total, and of all else
+abbrev heard : {A : Type 0} → (Refusal → A) → (ℕ → A) → (ℕ → A) → A → Said → A
+heard refuse flush sum other (refused n ks) = refuse (refusalBy n ks)
+heard refuse flush sum other (flushed n) = flush n
+heard refuse flush sum other (total n) = sum n
+heard refuse flush sum other opened = other
+heard refuse flush sum other hit = other
+heard refuse flush sum other fault = other
+heard refuse flush sum other (faultClean q) = other
+heard refuse flush sum other (faultDirty q) = other
+
 abbrev refusalIn : Said → Refusal
-refusalIn (refused n ks) = refusalBy n ks
-refusalIn opened = Spent
-refusalIn hit = Spent
-refusalIn fault = Spent
-refusalIn (faultClean q) = Spent
-refusalIn (faultDirty q) = Spent
-refusalIn (flushed n) = Spent
-refusalIn (total n) = Spent
+refusalIn = heard (λ x. x) (λ n. Spent) (λ n. Spent) Spent
 
 pub refusal-one-to-one : (x y : Refusal) → refusalSays x ≡ refusalSays y → x ≡ y
 refusal-one-to-one = one-to-one refusalSays refusalIn refusal-home
@@ -77,14 +83,7 @@ answer-one-to-one = one-to-one answerSays answerIn answer-home
 -- ---- opening
 
 abbrev openingIn : Said → Opening
-openingIn (refused n ks) = opening.Refused (refusalBy n ks)
-openingIn opened = opening.Opened
-openingIn hit = opening.Opened
-openingIn fault = opening.Opened
-openingIn (faultClean q) = opening.Opened
-openingIn (faultDirty q) = opening.Opened
-openingIn (flushed n) = opening.Opened
-openingIn (total n) = opening.Opened
+openingIn = heard opening.Refused (λ n. opening.Opened) (λ n. opening.Opened) opening.Opened
 
 opening-home : (x : Opening) → openingIn (openingSays x) ≡ x
 opening-home (opening.Refused x) = ap opening.Refused (refusal-home x)
@@ -96,14 +95,7 @@ opening-one-to-one = one-to-one openingSays openingIn opening-home
 -- ---- flush and total
 
 abbrev flushingIn : Said → Flushing
-flushingIn (refused n ks) = flushing.Refused (refusalBy n ks)
-flushingIn opened = flushing.Wrote 0
-flushingIn hit = flushing.Wrote 0
-flushingIn fault = flushing.Wrote 0
-flushingIn (faultClean q) = flushing.Wrote 0
-flushingIn (faultDirty q) = flushing.Wrote 0
-flushingIn (flushed n) = flushing.Wrote n
-flushingIn (total n) = flushing.Wrote 0
+flushingIn = heard flushing.Refused flushing.Wrote (λ n. flushing.Wrote 0) (flushing.Wrote 0)
 
 flushing-home : (x : Flushing) → flushingIn (flushingSays x) ≡ x
 flushing-home (flushing.Refused x) = ap flushing.Refused (refusal-home x)
@@ -113,14 +105,7 @@ pub flushing-one-to-one : (x y : Flushing) → flushingSays x ≡ flushingSays y
 flushing-one-to-one = one-to-one flushingSays flushingIn flushing-home
 
 abbrev costingIn : Said → Costing
-costingIn (refused n ks) = costing.Refused (refusalBy n ks)
-costingIn opened = costing.Total 0
-costingIn hit = costing.Total 0
-costingIn fault = costing.Total 0
-costingIn (faultClean q) = costing.Total 0
-costingIn (faultDirty q) = costing.Total 0
-costingIn (flushed n) = costing.Total 0
-costingIn (total n) = costing.Total n
+costingIn = heard costing.Refused (λ n. costing.Total 0) costing.Total (costing.Total 0)
 
 costing-home : (x : Costing) → costingIn (costingSays x) ≡ x
 costing-home (costing.Refused x) = ap costing.Refused (refusal-home x)

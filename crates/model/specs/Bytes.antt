@@ -1,7 +1,7 @@
 -- What an outcome does to the lent bytes. It depends on the frame and the answer alone, so every policy shares it.
 -- Assumes nothing.
-use Prim.Native.Nat.{ℕ, _+_, _*_}
 use mathlib.Core.List.{List}
+use Prim.Native.Nat.{ℕ, _+_, _*_}
 use Rattle.pages.specs.Pages.{splice, pageOf, withPage}
 use Rattle.pages.specs.Memory.{writtenBack}
 use Rattle.model.specs.declared.Victim.{Victim}
@@ -12,6 +12,9 @@ use Rattle.model.specs.declared.Answer.the-variants.{Refused, Hit, Fault
 pub record Memory : Type 0 where
   pub frames : List ℕ
   pub store : List ℕ
+
+abbrev pub memory : List ℕ → List ℕ → Memory
+memory frames store = record { frames = frames; store = store }
 
 -- the victim of frame f is put back: a dirty one's bytes go to its place in the store
 abbrev pub putBack : ℕ → ℕ → Victim → Memory → Memory

@@ -1,18 +1,18 @@
 -- What frames have, whatever lists a policy keeps: how often a frame stands as empty and as resident, how often it is marked unsaved, and its page. And what a
 -- request and a flush may do to that.
---     holdingIn    what each frame holds
+--     contentIn    what each frame holds
 --     Placed       every frame stands once; pages are of the store and apart
 --     Step         a request's answer, and what it leaves
 --     FlushStep    what a flush leaves
 -- Assumes nothing.
 use mathlib.Core.Path.{_≡_}
 use mathlib.Core.Logic.{_≢_}
-use Prim.Native.Nat.{ℕ, zero, suc, _+_, _≤_, _<_}
 use mathlib.Core.List.{List}
+use Prim.Native.Nat.{ℕ, zero, suc, _+_, _≤_, _<_}
 use lib.ListN.{length, getD, set}
 use Rattle.order.specs.Count.{count}
 use Rattle.model.specs.Numbers.{Numbers}
-use Rattle.model.specs.Moves.{Holding, vacant, clean, dirty}
+use Rattle.model.specs.Moves.{Content, vacant, clean, dirty}
 use Rattle.model.specs.declared.Op.{Op}
 use Rattle.model.specs.declared.Op.the-variants.{Read, Write}
 use Rattle.model.specs.declared.Victim.{Victim}
@@ -30,13 +30,13 @@ abbrev pub pageAt : Frames → ℕ → ℕ
 pageAt x f = getD (x .page) f 0
 
 -- by how often a frame is resident, how often unsaved, and its page
-abbrev pub holdingBy : ℕ → ℕ → ℕ → Holding
-holdingBy zero d q = vacant
-holdingBy (suc r) zero q = clean q
-holdingBy (suc r) (suc d) q = dirty q
+abbrev pub contentBy : ℕ → ℕ → ℕ → Content
+contentBy zero d q = vacant
+contentBy (suc r) zero q = clean q
+contentBy (suc r) (suc d) q = dirty q
 
-abbrev pub holdingIn : Frames → ℕ → Holding
-holdingIn x f = holdingBy (x .resident f) (x .unsaved f) (pageAt x f)
+abbrev pub contentIn : Frames → ℕ → Content
+contentIn x f = contentBy (x .resident f) (x .unsaved f) (pageAt x f)
 
 pub record Placed (n : Numbers) (x : Frames) : Type 0 where
   -- every frame is empty or resident, once, and nothing else is

@@ -1,7 +1,7 @@
 -- The numbers of a pool and their limits.
 -- Assumes nothing.
+use mathlib.Core.Bool.{Bool, _&&_, cond as if-else}
 use Prim.Native.Nat.{ℕ, _≤_}
-use mathlib.Core.Bool.{Bool, true, false, _&&_}
 use lib.Dec.{eqb, leb}
 
 -- b frames over a store of N pages of P bytes; what a physical read and a physical write cost
@@ -12,6 +12,9 @@ pub record Numbers : Type 0 where
   pub r : ℕ
   pub w : ℕ
 
+abbrev pub numbers : ℕ → ℕ → ℕ → ℕ → ℕ → Numbers
+numbers b P N r w = record { b = b; P = P; N = N; r = r; w = w }
+
 -- the target is counted in units, 65,536 to a page
 abbrev pub unit : ℕ
 unit = 65536
@@ -19,10 +22,6 @@ unit = 65536
 -- so many calls are served in one opening
 abbrev pub mostServed : ℕ
 mostServed = 1000000000
-
-abbrev pub if-else : {A : Type 0} → Bool → A → A → A
-if-else true a b = a
-if-else false a b = b
 
 abbrev pub between : ℕ → ℕ → ℕ → Bool
 between low x high = leb low x && leb x high
@@ -54,7 +53,7 @@ abbrev pub usualWrite : ℕ
 usualWrite = 4
 
 abbrev pub withUsualDrive : Numbers → Numbers
-withUsualDrive n = record { b = n .b; P = n .P; N = n .N; r = usualRead; w = usualWrite }
+withUsualDrive n = numbers (n .b) (n .P) (n .N) usualRead usualWrite
 
 -- the numbers that a pool opened with n holds
 unfoldable pub meant : Numbers → Numbers

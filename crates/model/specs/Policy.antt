@@ -1,8 +1,8 @@
 -- What a policy is to a run of calls. Everything else about calls, bytes and refusals is said once, for any policy.
 -- Assumes nothing.
-use Prim.Native.Nat.{ℕ}
 use mathlib.Core.Bool.{Bool}
 use mathlib.Core.List.{List}
+use Prim.Native.Nat.{ℕ}
 use Rattle.model.specs.Numbers.{Numbers}
 use Rattle.model.specs.Counts.{Counts}
 use Rattle.model.specs.Target.{Costs}

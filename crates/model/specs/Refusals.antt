@@ -1,9 +1,9 @@
 -- When something is refused: the scope's table, in the scope's order.
 -- Assumes nothing.
 use mathlib.Core.Path.{_≡_}
-use Prim.Native.Nat.{ℕ, _+_}
 use mathlib.Core.Bool.{Bool, true, false, not, _&&_}
 use mathlib.Core.List.{List, [], _∷_}
+use Prim.Native.Nat.{ℕ, _+_, _*_, _<_}
 use lib.Dec.{leb, ltb, eqb}
 use Rattle.pages.specs.Memory.{sizesMatch}
 use Rattle.model.specs.Numbers.{Numbers, inLimits, meant, mostServed}
@@ -78,3 +78,10 @@ requestVerdict sound a served m n page fit = first (brokenPool sound ∷ request
 
 unfoldable pub flushVerdict : Bool → Numbers → ℕ → ℕ → ℕ → Verdict
 flushVerdict sound a served m n = first (brokenPool sound ∷ flushRows a served m n)
+
+-- ---- what a read, a write or a flush that is served may count on: the lent memory is of the right size, and a call more may be served
+
+pub record Ready (a : Numbers) (served m n : ℕ) : Type 0 where
+  pub frames : m ≡ a .b * a .P
+  pub store : n ≡ a .N * a .P
+  pub more : served < mostServed

@@ -5,16 +5,15 @@
 --     request    the next state, the frame that has the page, and the answer
 --     states     all of it as a policy
 -- Assumes nothing.
-use Prim.Native.Nat.{ℕ, _-_, _<_}
-use mathlib.Core.Bool.{Bool, true}
+use mathlib.Core.Bool.{Bool, true, cond as if-else}
 use mathlib.Core.List.{List, [], _∷_, _++_}
+use Prim.Native.Nat.{ℕ, _-_, _<_}
 use lib.ListN.{length, getD}
 use lib.Dec.{ltb}
 use Rattle.order.specs.Lists.{removeAt, moveToFront}
 use Rattle.order.specs.Find.{findFrom}
 use Rattle.order.specs.declared.Found.{Found}
 use Rattle.order.specs.declared.Found.the-variants.{At, Nowhere}
-use Rattle.model.specs.Numbers.{if-else}
 use Rattle.model.specs.Target.{Costs, Adjustment, up, down, adjust, aboveTarget}
 use Rattle.model.specs.Policy.{Outcome, Policy}
 use Rattle.model.specs.State.{State, withLists, withPageIn, withTarget, counted, pageIn}

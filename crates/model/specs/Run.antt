@@ -1,15 +1,15 @@
--- Calls on a pool of any policy and the bytes that are lent to them: when each is refused, what it leaves, and what a run of them does, refused ones among them.
+-- Calls on a pool of any policy and the bytes that are lent to them: when each is refused, what it leaves, and what a run of them does, refused ones among
+-- them.
 --     left        what a call leaves, for every input: the pool's state, what is said, every lent byte
 --     history     what each page is after a run, by the served writes
 --     gathered    what the served calls of a run bring, one after the other
 -- Assumes nothing.
-use Prim.Native.Nat.{ℕ}
-use mathlib.Core.Bool.{Bool}
 use mathlib.Core.List.{List, [], _∷_, _++_}
+use Prim.Native.Nat.{ℕ}
 use lib.ListN.{length}
 use Rattle.pages.specs.Pages.{pageOf}
 use Rattle.model.specs.Words.{Said, flushed as saidFlushed, total as saidTotal, answerSays, refusalSays}
-use Rattle.model.specs.Target.{Costs}
+use Rattle.model.specs.Target.{Costs, costsOf}
 use Rattle.model.specs.Counts.{totalCost}
 use Rattle.model.specs.Policy.{Outcome, Policy}
 use Rattle.model.specs.Refusals.{Row, first, brokenPool, requestRows, flushRows, outputFits, stretchFits}
@@ -17,7 +17,6 @@ use Rattle.model.specs.Bytes.{Memory, brought, overlaid, flushedBytes}
 use Rattle.model.specs.Moves.{History, laid}
 use Rattle.model.specs.declared.Op.{Op}
 use Rattle.model.specs.declared.Op.the-variants.{Read, Write}
-use Rattle.model.specs.declared.Refusal.{Refusal}
 use Rattle.model.specs.declared.Verdict.{Verdict}
 use Rattle.model.specs.declared.Verdict.the-variants.{Fine, Refused}
 
@@ -72,7 +71,7 @@ module _ (π : Policy) where
 
   -- the costs in force: those that the pool was opened with
   abbrev pub costsIn : World (π .State) → Costs
-  costsIn x = record { r = π .numbers (x .state) .r; w = π .numbers (x .state) .w }
+  costsIn x = costsOf (π .numbers (x .state))
 
   abbrev pub outcomeOf : Op → World (π .State) → ℕ → Outcome (π .State)
   outcomeOf op x q = π .request op (costsIn x) (x .state) q

@@ -1,7 +1,7 @@
 -- What a pool holds, as plain lists and numbers. Every state is made by `opened` and the setters below.
 -- Assumes nothing.
-use Prim.Native.Nat.{ℕ, _+_}
 use mathlib.Core.List.{List, []}
+use Prim.Native.Nat.{ℕ, _+_}
 use lib.ListN.{getD, set, replicate}
 use Rattle.order.specs.Lists.{downFrom}
 use Rattle.order.specs.Count.{count}

@@ -1,7 +1,7 @@
 -- The scope's listing and its examples P1 to P9: one table with one statement, which the checker computes from the definitions.
 -- Assumes nothing.
-use Prim.Native.Nat.{ℕ, _-_}
 use mathlib.Core.List.{List, [], _∷_}
+use Prim.Native.Nat.{ℕ, _-_}
 use lib.ListN.{getD, replicate}
 use Rattle.pages.specs.Pages.{pageOf}
 use Rattle.model.specs.Words.{Said, hit, fault, faultClean, faultDirty, flushed as wrote}

@@ -1,15 +1,26 @@
 -- The target in units, and what an adjustment does to it; the exact target as a fraction, and what the same adjustment does to that.
 -- Assumes nothing.
-use Prim.Native.Nat.{ℕ, _+_, _*_, _-_, _/_, _≤_, _<_, min}
 use mathlib.Core.Bool.{Bool}
 use mathlib.Core.List.{List, [], _∷_}
+use Prim.Native.Nat.{ℕ, _+_, _*_, _-_, _/_, _≤_, _<_, min}
 use lib.Dec.{ltb}
-use Rattle.model.specs.Numbers.{unit}
+use Rattle.model.specs.Numbers.{Numbers, unit}
 
 -- what a physical read and a physical write cost at the time of a call
 pub record Costs : Type 0 where
   pub r : ℕ
   pub w : ℕ
+
+abbrev pub costs : ℕ → ℕ → Costs
+costs r w = record { r = r; w = w }
+
+-- those that a pool was opened with
+abbrev pub costsOf : Numbers → Costs
+costsOf n = costs (n .r) (n .w)
+
+-- costs in force may be as high as this: 32,768 times of 65,535
+abbrev pub mostCost : ℕ
+mostCost = 2147450880
 
 -- an adjustment, with the costs in force and |C| and |D| before the page moves: up by a read hit in C, down by a write hit in D
 pub data Adjustment : Type 0 where
@@ -94,7 +105,7 @@ pub record WithinUnits (k τ : ℕ) (x : Exact) : Type 0 where
   pub below : unit * x .num ≤ τ * x .den + k * x .den
 
 -- the exact target is a fraction from 0 to b
-pub record Held (b : ℕ) (x : Exact) : Type 0 where
+pub record Bounded (b : ℕ) (x : Exact) : Type 0 where
   pub positive : 0 < x .den
   pub most : x .num ≤ b * x .den
 

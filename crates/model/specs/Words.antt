@@ -1,11 +1,12 @@
 -- The scope's number and values for each case of each answer. Promises state answers in these; that no two cases say the same is proved.
 -- Assumes nothing.
-use Prim.Native.Nat.{ℕ}
 use mathlib.Core.List.{List, [], _∷_}
+use Prim.Native.Nat.{ℕ}
 use Rattle.model.specs.declared.Victim.{Victim}
 use Rattle.model.specs.declared.Victim.the-variants.{None, Clean, Dirty}
 use Rattle.model.specs.declared.Refusal.{Refusal}
-use Rattle.model.specs.declared.Refusal.the-variants.{OutOfLimits, BrokenPool, WrongMemory, NoSuchPage, WrongBytes, Spent, NotATrace, BadRecord, LongFile, LargePool}
+use Rattle.model.specs.declared.Refusal.the-variants.{OutOfLimits, BrokenPool, WrongMemory, NoSuchPage, WrongBytes, Spent}
+use Rattle.model.specs.declared.Refusal.the-variants.{NotATrace, BadRecord, LongFile, LargePool}
 use Rattle.model.specs.declared.Answer.{Answer}
 use Rattle.model.specs.declared.Answer.the-variants as answer
 use Rattle.model.specs.declared.Opening.{Opening}

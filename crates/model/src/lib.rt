@@ -1,5 +1,5 @@
-// The scope's words, its limits, and the numbers of its refusals for programs that print them. No other function stands here: specs/ says what is right, and proofs/
-// shows what follows from it.
+// The scope's words, its limits, and the numbers of its refusals for programs that print them. No other function stands here: specs/ says what is right, and
+// proofs/ shows what follows from it.
 ghost use mathlib.Core.Path.{_≡_};
 ghost use Rattle.model.specs.Numbers.{inLimits};
 ghost use Rattle.model.specs.Words.{numberOf};

@@ -1,17 +1,17 @@
 -- Laws of a list in 64 places: what an operation on the places does to the list that they hold.
 --     pad-length, pad-set    a padded list
---     holds-none, holds-take, holds-getD    the empty list, and what is read out of the places
---     holds-front, holds-remove, holds-cons, holds-tail    an operation on the places is one on the list
+--     none-in-places, in-places-take, in-places-getD    the empty list, and what is read out of the places
+--     front-in-places, remove-in-places, cons-in-places, tail-in-places    an operation on the places is one on the list
 --     before-start, before-turn, before-end    a list is put before another from its last element to its first
 -- Assumes nothing.
 use mathlib.Core.Path.{_≡_, refl}
+use mathlib.Core.List.{List, [], _∷_, _++_, append-assoc}
 use Prim.Native.Nat.{ℕ, suc, _+_, _-_, _≤_, _<_}
 use native.Mathlib.Omega.{arith}
-use mathlib.Core.List.{List, [], _∷_, _++_, append-assoc}
 use lib.ListN.{length, getD, set, take, drop, replicate, length-append, length-replicate, length-set, List·getD-append, drop-of-length-le}
 use lib.Seq.{set-append-seam, set-append-left, drop-cons, take-append-seam}
 use Rattle.order.specs.Lists.{removeAt, insertAt, moveToFront}
-use Rattle.order.specs.Places.{places, pad, Holds}
+use Rattle.order.specs.Places.{places, pad, InPlaces}
 use Rattle.order.proofs.Lists.{removeAt-append, removeAt-seam, insertAt-seam, removeAt-length}
 
 -- ---- a padded list
@@ -45,23 +45,23 @@ pad-tail xs x h =
 
 -- ---- places that hold a list
 
-pub holds-none : Holds (replicate places 0) 0 []
-holds-none = record { is = refl; len = refl; fits = omega arith }
+pub none-in-places : InPlaces (replicate places 0) 0 []
+none-in-places = record { is = refl; len = refl; fits = omega arith }
 
-module _ {list : List ℕ} {n : ℕ} {xs : List ℕ} (h : Holds list n xs) where
-  pub holds-take : take n list ≡ xs
-  holds-take = rw (h .is, ← (h .len)) (take-append-seam xs _)
+module _ {list : List ℕ} {n : ℕ} {xs : List ℕ} (h : InPlaces list n xs) where
+  pub in-places-take : take n list ≡ xs
+  in-places-take = rw (h .is, ← (h .len)) (take-append-seam xs _)
 
-  pub holds-getD : (i : ℕ) → i < n → getD list i 0 ≡ getD xs i 0
-  holds-getD i l = let k : i < length xs = omega (arith, h .len) in rw (h .is) (List·getD-append xs _ 0 i k)
+  pub in-places-getD : (i : ℕ) → i < n → getD list i 0 ≡ getD xs i 0
+  in-places-getD i l = let k : i < length xs = omega (arith, h .len) in rw (h .is) (List·getD-append xs _ 0 i k)
 
-  pub holds-front : (i : ℕ) → i < n → Holds (moveToFront i list) n (moveToFront i xs)
-  holds-front i l =
+  pub front-in-places : (i : ℕ) → i < n → InPlaces (moveToFront i list) n (moveToFront i xs)
+  front-in-places i l =
       let k : i < length xs = omega (arith, h .len) in
       record { is = rw (h .is) (pad-front xs i k); len = omega (arith, h .len, removeAt-length xs i k); fits = h .fits }
 
-  pub holds-remove : (i : ℕ) → i < n → Holds (insertAt (n - 1) 0 (removeAt i list)) (n - 1) (removeAt i xs)
-  holds-remove i l =
+  pub remove-in-places : (i : ℕ) → i < n → InPlaces (insertAt (n - 1) 0 (removeAt i list)) (n - 1) (removeAt i xs)
+  remove-in-places i l =
       let k : i < length xs = omega (arith, h .len) in
       let f : length xs ≤ places = omega (arith, h .len, h .fits) in
       record {
@@ -70,13 +70,13 @@ module _ {list : List ℕ} {n : ℕ} {xs : List ℕ} (h : Holds list n xs) where
         fits = omega (arith, h .fits);
       }
 
-  pub holds-cons : (x : ℕ) → n < places → Holds (x ∷ removeAt n list) (n + 1) (x ∷ xs)
-  holds-cons x l =
+  pub cons-in-places : (x : ℕ) → n < places → InPlaces (x ∷ removeAt n list) (n + 1) (x ∷ xs)
+  cons-in-places x l =
       let k : length xs < places = omega (arith, h .len) in
       record { is = rw (h .is, ← (h .len)) (pad-cons xs x k); len = omega (arith, h .len); fits = omega arith }
 
-  pub holds-tail : (x : ℕ) → n < places → Holds (set list n x) (n + 1) (xs ++ (x ∷ []))
-  holds-tail x l =
+  pub tail-in-places : (x : ℕ) → n < places → InPlaces (set list n x) (n + 1) (xs ++ (x ∷ []))
+  tail-in-places x l =
       let k : length xs < places = omega (arith, h .len) in
       record {
         is = rw (h .is, ← (h .len)) (pad-tail xs x k);
@@ -86,20 +86,20 @@ module _ {list : List ℕ} {n : ℕ} {xs : List ℕ} (h : Holds list n xs) where
 
 -- ---- one list before another
 
-module _ {front : List ℕ} {m : ℕ} {xs : List ℕ} (h : Holds front m xs) (ys : List ℕ) where
-  pub before-start : {back : List ℕ} {n : ℕ} → Holds back n ys → Holds back n (drop m xs ++ ys)
+module _ {front : List ℕ} {m : ℕ} {xs : List ℕ} (h : InPlaces front m xs) (ys : List ℕ) where
+  pub before-start : {back : List ℕ} {n : ℕ} → InPlaces back n ys → InPlaces back n (drop m xs ++ ys)
   before-start g = let l : length xs ≤ m = omega (arith, h .len) in rw (drop-of-length-le xs l) g
 
-  pub before-turn : {r : List ℕ} {k : ℕ} (i : ℕ) → 0 < i → i ≤ m → k < places → Holds r k (drop i xs ++ ys)
-      → Holds (getD front (i - 1) 0 ∷ removeAt k r) (k + 1) (drop (i - 1) xs ++ ys)
+  pub before-turn : {r : List ℕ} {k : ℕ} (i : ℕ) → 0 < i → i ≤ m → k < places → InPlaces r k (drop i xs ++ ys)
+      → InPlaces (getD front (i - 1) 0 ∷ removeAt k r) (k + 1) (drop (i - 1) xs ++ ys)
   before-turn i p l f g =
       let b : i - 1 < m = omega arith in
       let bl : i - 1 < length xs = omega (arith, h .len) in
       let e : suc (i - 1) ≡ i = omega arith in
       let s : drop (i - 1) xs ≡ getD xs (i - 1) 0 ∷ drop i xs = rw (drop-cons xs (i - 1) 0 bl, e) in
-      rw (holds-getD h (i - 1) b, s) (holds-cons g (getD xs (i - 1) 0) f)
+      rw (in-places-getD h (i - 1) b, s) (cons-in-places g (getD xs (i - 1) 0) f)
 
-  pub before-end : {r : List ℕ} {k : ℕ} (n i : ℕ) → i ≤ 0 → k + i ≡ n + m → Holds r k (drop i xs ++ ys) → Holds r (n + m) (xs ++ ys)
+  pub before-end : {r : List ℕ} {k : ℕ} (n i : ℕ) → i ≤ 0 → k + i ≡ n + m → InPlaces r k (drop i xs ++ ys) → InPlaces r (n + m) (xs ++ ys)
   before-end {k = k} n i z e g =
       let a : i ≡ 0 = omega arith in
       let b : n + m ≡ k = omega arith in

@@ -2,19 +2,23 @@
 --     findFrom-hit, findFrom-miss, findFrom-end    a loop from the front, over the frames that are left: it finds, goes on, or is through
 --     findFrom-below, findFrom-at    a place that is found is one of the list, and its frame holds the page
 --     findFrom-none, findFrom-nowhere    of a list where nothing is found no frame holds the page, and the reverse
+--     hasBefore-hit, hasBefore-miss    one place more is looked through
+--     hasBefore-none, hasBefore-nowhere    what does not stand before a place
 -- Assumes nothing.
-use mathlib.Core.Path.{_≡_, refl}
+use mathlib.Core.Path.{_≡_, refl, sym}
 use mathlib.Core.Logic.{_⊎_, inl, inr, ⊎-elim, dite, _≢_}
+use mathlib.Core.List.{List, [], _∷_}
+use mathlib.Core.Bool.{false, or-false, true, or-true, false≢true}
 use Prim.Native.Nat.{ℕ, zero, suc, _+_, _≤_, _<_}
 use native.Mathlib.Decide.{ℕ-discrete}
 use native.Mathlib.Numerals.{add-one}
 use native.Mathlib.Omega.{arith}
-use mathlib.Core.List.{List, [], _∷_}
+use native.Mathlib.Nat.{not-suc-le-zero, eq-or-lt-of-le, le-of-suc-le-suc}
 use lib.ListN.{length, getD, take, drop, drop-of-length-le}
 use lib.Seq.{length-take-le, drop-cons, getD-take}
 use borrow.Author.Tests.{eq-eqb, ne-eqb}
 use Rattle.order.specs.Count.{count}
-use Rattle.order.specs.Find.{findFrom}
+use Rattle.order.specs.Find.{findFrom, hasBefore}
 use Rattle.order.specs.declared.Found.the-variants.{At, Nowhere}
 use Rattle.order.proofs.Count.{bit-other}
 
@@ -72,3 +76,27 @@ module _ (page : List ℕ) (wanted : ℕ) where
   pub findFrom-nowhere : (k : ℕ) (fs : List ℕ) → ((i : ℕ) → i < length fs → getD page (getD fs i 0) 0 ≢ wanted) → findFrom k page wanted fs ≡ Nowhere
   findFrom-nowhere k [] p = refl
   findFrom-nowhere k (f ∷ fs) p = rw (ne-eqb _ _ (p 0 (omega arith))) (findFrom-nowhere (suc k) fs (λ i h. p (suc i) (omega arith)))
+
+-- ---- a page stands before a place
+
+module _ (page : List ℕ) where
+  pub hasBefore-hit : (n q : ℕ) → getD page n 0 ≡ q → hasBefore page (n + 1) q ≡ true
+  hasBefore-hit n q e = rw (add-one, eq-eqb _ _ e, or-true)
+
+  pub hasBefore-miss : (n q : ℕ) → getD page n 0 ≢ q → hasBefore page (n + 1) q ≡ hasBefore page n q
+  hasBefore-miss n q e = rw (add-one, ne-eqb _ _ e, or-false)
+
+  pub hasBefore-nowhere : (n q : ℕ) → ((j : ℕ) → j < n → getD page j 0 ≢ q) → hasBefore page n q ≡ false
+  hasBefore-nowhere zero q p = refl
+  hasBefore-nowhere (suc n) q p = rw (ne-eqb _ _ (p n (omega arith)), or-false) (hasBefore-nowhere n q (λ j h. p j (omega arith)))
+
+  pub hasBefore-none : (n q : ℕ) → hasBefore page n q ≡ false → (j : ℕ) → j < n → getD page j 0 ≢ q
+  hasBefore-none zero q e j h y = not-suc-le-zero h
+  hasBefore-none (suc n) q e j h y =
+      dite (ℕ-discrete (getD page n 0) q)
+      (λ z. false≢true (sym (rw (eq-eqb _ _ z, or-true) at e)))
+      (λ d.
+      ⊎-elim
+      (λ (k : j ≡ n). d (rw k at y))
+      (λ (k : j < n). hasBefore-none n q (rw (ne-eqb _ _ d, or-false) at e) j k y)
+      (eq-or-lt-of-le (le-of-suc-le-suc h)))

@@ -1,8 +1,8 @@
 -- How often a number stands in a list. That every frame stands in one list, once, is said by counts, and so every move is an equation.
 -- Assumes nothing.
-use Prim.Native.Nat.{ℕ, _+_}
 use mathlib.Core.Bool.{Bool, true, false}
 use mathlib.Core.List.{List, [], _∷_}
+use Prim.Native.Nat.{ℕ, _+_}
 use lib.Dec.{eqb}
 
 abbrev pub bit : Bool → ℕ

@@ -4,8 +4,8 @@
 --     moveToFront i xs    what stands at place i goes to the front
 --     downFrom n          the numbers below n, the largest first
 -- Assumes nothing.
-use Prim.Native.Nat.{ℕ, zero, suc}
 use mathlib.Core.List.{List, [], _∷_}
+use Prim.Native.Nat.{ℕ, zero, suc}
 use lib.ListN.{getD}
 
 abbrev pub removeAt : ℕ → List ℕ → List ℕ

@@ -1,12 +1,12 @@
 // Lists of frame numbers by last use, the most recent first: up to 64 of them in fixed places, with a length beside them.
-// Every operation takes the places and gives them back; what they mean on plain lists is said by the laws on `Holds`.
+// Every operation takes the places and gives them back; what they mean on plain lists is said by the laws on `InPlaces`.
 ghost use mathlib.Core.Path.{_≡_};
-ghost use Prim.Native.Nat.{ℕ, _+_, _-_, _≤_, _<_};
 ghost use mathlib.Core.List.{List, _∷_, _++_};
+ghost use Prim.Native.Nat.{ℕ, _+_, _-_, _≤_, _<_};
 ghost use lib.ListN.{getD, set, take};
-ghost use Rattle.order.specs.Lists.{removeAt, insertAt, moveToFront};
-ghost use Rattle.order.specs.Places.{places, Holds};
-ghost use Rattle.order.specs.Find.{findFrom};
+ghost use Rattle.order.specs.Lists.{removeAt, insertAt, moveToFront, downFrom};
+ghost use Rattle.order.specs.Places.{places, InPlaces};
+ghost use Rattle.order.specs.Find.{findFrom, hasBefore};
 
 // How many frames a list can hold.
 pub const PLACES: usize = 64;
@@ -34,6 +34,22 @@ pub fn find(list: [u8; PLACES], n: usize, page: [u16; PLACES], wanted: u16) -> F
     Found::Nowhere
 }
 
+// Whether the page q stands before place `end`. It goes to the end, whatever it meets: such a loop is compiled to vector code.
+pub fn stands_before(page: &[u16; PLACES], end: usize, q: u16) -> bool
+    requires { ⌜ end ≤ places ⌝ }
+    ensures { λ r. ⌜ r ≡ hasBefore (now (page .entry)) end q ⌝ }
+{
+    let mut found = false;
+    let mut k = 0;
+    while k < end {
+        if page[k] == q {
+            found = true;
+        }
+        k += 1;
+    }
+    found
+}
+
 // What stands at `from` goes out, what stands before it moves up by one place, and `x` goes to the front.
 // With `from` the length of the list, nothing but a free place goes out.
 pub fn put_front(list: [u8; PLACES], from: usize, x: u8) -> [u8; PLACES]
@@ -50,6 +66,7 @@ pub fn put_front(list: [u8; PLACES], from: usize, x: u8) -> [u8; PLACES]
     r
 }
 
+// What stands at `at` goes to the front, and what stands before it moves up by one place.
 pub fn move_to_front(list: [u8; PLACES], at: usize) -> [u8; PLACES]
     requires { ⌜ at < places ⌝ }
     ensures { λ r. ⌜ r ≡ moveToFront at list ⌝ }
@@ -85,7 +102,7 @@ pub fn put_tail(list: [u8; PLACES], n: usize, x: u8) -> [u8; PLACES]
 // A list of m goes before one of n.
 pub fn put_before(front: [u8; PLACES], m: usize, back: [u8; PLACES], n: usize) -> [u8; PLACES]
     requires { ⌜ n + m ≤ places ⌝ }
-    ensures { λ r. ⌜ ((xs ys : List ℕ) → Holds front m xs → Holds back n ys → Holds r (n + m) (xs ++ ys)) ⌝ }
+    ensures { λ r. ⌜ ((xs ys : List ℕ) → InPlaces front m xs → InPlaces back n ys → InPlaces r (n + m) (xs ++ ys)) ⌝ }
 {
     let mut r = back;
     let mut i = m;
@@ -97,4 +114,19 @@ pub fn put_before(front: [u8; PLACES], m: usize, back: [u8; PLACES], n: usize) -
         k += 1;
     }
     r
+}
+
+// The frames n - 1, .., 1, 0.
+pub fn all_frames(n: usize) -> [u8; PLACES]
+    requires { ⌜ n ≤ places ⌝ }
+    ensures { λ r. ⌜ InPlaces r n (downFrom n) ⌝ }
+{
+    let mut list = [0u8; PLACES];
+    let mut k = 0;
+    while k < n {
+        let next = put_front(list, k, k as u8);
+        list = next;
+        k += 1;
+    }
+    list
 }

@@ -11,9 +11,9 @@ use native.Mathlib.Omega.{arith}
 use lib.Dec.{T, ltb, eqb, lit<}
 use lib.ListN.{length, getD, take, drop, length-take, drop-of-length-le}
 use lib.Seq.{drop-cons, getD-take}
+use borrow.Author.Tests.{eqb-true, eq-eqb, ne-eqb}
 use mir.Syntax.{w64}
 use mir.Val.{Fits}
-use borrow.Author.Tests.{eqb-true, eq-eqb, ne-eqb}
 use Rattle.pages.specs.Pages.{pageOf, withPage}
 use Rattle.pages.specs.Memory.{writtenBack, sizesMatch}
 
@@ -33,7 +33,7 @@ writtenBack-more P n i page frames list store h k l =
     let e : suc (i - 1) ≡ i = omega arith in
     let b : i - 1 < length (take n list) = simp length-take (omega arith) in
     let m : i - 1 < n = omega arith in
-    let d : getD list (i - 1) 0 ∷ drop i (take n list) ≡ drop (i - 1) (take n list) = rw (drop-cons (take n list) (i - 1) 0 b, getD-take n list (i - 1) 0 m, e) in
+    let d : getD list (i - 1) 0 ∷ drop i (take n list) ≡ drop (i - 1) (take n list) = rw (drop-cons (take n list) (i - 1) 0, getD-take n list (i - 1) 0, e) in
     ap (λ (fs : List ℕ). writtenBack P page frames fs store) d
 
 -- ---- sizes

@@ -66,6 +66,7 @@ pageOf-other P p q ys xs e h n =
 
 -- ---- a stretch of a page is replaced, in the whole or in the page
 
-pub withPage-overlay : (P p at : ℕ) (ys xs : List ℕ) → at + length ys ≤ P → InPages P p (length xs) → splice (p * P + at) ys xs ≡ withPage P p (splice at ys (pageOf P p xs)) xs
+pub withPage-overlay : (P p at : ℕ) (ys xs : List ℕ) → at + length ys ≤ P → InPages P p (length xs)
+    → splice (p * P + at) ys xs ≡ withPage P p (splice at ys (pageOf P p xs)) xs
 unfolding withPage pageOf
 withPage-overlay P p at ys xs h k = splice-within (p * P) P at ys xs h k

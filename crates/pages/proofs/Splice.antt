@@ -70,7 +70,8 @@ splice-is : (at n : ℕ) (ys xs : List ℕ) → length ys ≡ n → take at xs +
 unfolding splice
 splice-is at n ys xs e = rw e
 
-pub splice-within : (a n at : ℕ) (ys xs : List ℕ) → at + length ys ≤ n → a + n ≤ length xs → splice (a + at) ys xs ≡ splice a (splice at ys (take n (drop a xs))) xs
+pub splice-within : (a n at : ℕ) (ys xs : List ℕ) → at + length ys ≤ n → a + n ≤ length xs
+    → splice (a + at) ys xs ≡ splice a (splice at ys (take n (drop a xs))) xs
 splice-within a n at ys xs h k =
     let l : at + length ys ≤ length (take n (drop a xs)) = omega (arith, part-length a n xs k) in
     let e = rw take-append-drop at (splice-append at ys (take n (drop a xs)) (drop n (drop a xs)) l) in

@@ -1,8 +1,8 @@
 -- Frame memory and store: what a list of write-backs leaves, and when the two are of the right size.
 -- Assumes nothing.
-use Prim.Native.Nat.{ℕ, _*_, _<_}
 use mathlib.Core.Bool.{Bool, _&&_}
 use mathlib.Core.List.{List, [], _∷_}
+use Prim.Native.Nat.{ℕ, _*_, _<_}
 use lib.Dec.{eqb}
 use lib.ListN.{getD}
 use Rattle.order.specs.Places.{places}

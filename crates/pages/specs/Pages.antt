@@ -4,8 +4,8 @@
 --     withPage P p ys xs   xs with ys as page p, and every other byte as it was
 --     InPages P p n        page p lies within n bytes
 -- Assumes nothing.
-use Prim.Native.Nat.{ℕ, _+_, _*_, _≤_}
 use mathlib.Core.List.{List, _++_}
+use Prim.Native.Nat.{ℕ, _+_, _*_, _≤_}
 use lib.ListN.{length, take, drop}
 
 unfoldable pub splice : ℕ → List ℕ → List ℕ → List ℕ

@@ -9,7 +9,7 @@ ghost use Rattle.pages.specs.Memory.{writtenBack, FrameIn, sizesMatch};
 use order::PLACES;
 
 // So many bytes are copied by way of an array: a page has no more.
-const HELD: usize = 4096;
+const BETWEEN: usize = 4096;
 
 // `to` becomes `from`, byte by byte.
 fn copy_bytes(to: &mut [u8], from: &[u8])
@@ -23,17 +23,17 @@ fn copy_bytes(to: &mut [u8], from: &[u8])
     }
 }
 
-// `to` becomes `from`. Of `to` and `from` alone the compiler must suppose that they overlap. Nothing else can reach `held`, so it sees two copies that overlap
-// nothing and makes one memmove of both: `held` is then neither cleared nor on the stack.
+// `to` becomes `from`. Of `to` and `from` alone the compiler must suppose that they overlap. Nothing else can reach `between`, so it sees two copies that
+// overlap nothing and makes one memmove of both: `between` is then neither cleared nor on the stack.
 fn copy_page(to: &mut [u8], from: &[u8])
     requires { ⌜ length (now to) ≡ length (now from) ⌝ }
     ensures { λ _. ⌜ now (to .exit) ≡ now (from .entry) ⌝ }
 {
     let n = from.len();
-    if n <= HELD {
-        let mut held = [0u8; HELD];
-        copy_bytes(&mut held[0..n], from);
-        copy_bytes(to, &held[0..n]);
+    if n <= BETWEEN {
+        let mut between = [0u8; BETWEEN];
+        copy_bytes(&mut between[0..n], from);
+        copy_bytes(to, &between[0..n]);
     } else {
         copy_bytes(to, from);
     }

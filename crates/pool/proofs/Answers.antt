@@ -3,26 +3,24 @@
 --     frames-decides, pages-last    frames and pages
 --     sound-refused, sound-last, sound-full    the whole
 -- Assumes nothing.
-use mathlib.Core.Path.{_≡_, refl, ap, _∙_}
+use mathlib.Core.Path.{_≡_, ap}
 use mathlib.Core.Bool.{Bool, true, false}
+use mathlib.Core.List.{List, []}
 use Prim.Native.Nat.{ℕ, _+_, _*_, _-_, _≤_}
 use native.Mathlib.Omega.{arith}
-use mathlib.Core.List.{List, [], _++_}
-use lib.ListN.{length, take, drop, replicate}
+use lib.ListN.{length, take, drop}
 use lib.Dec.{eqb, leb}
-use Rattle.order.specs.Count.{count}
 use Rattle.order.specs.Places.{places}
-use Rattle.model.specs.Numbers.{Numbers, unit, mostServed, inLimits, Limits}
-use Rattle.pool.specs.Parts.{Decides, every, isZero, isSome, isAtMost, marked, blankAll, nonzeroApart, CountsRight, TailsRight, FramesRight, EmptyRight, PagesRight, FullRight}
+use Rattle.checks.specs.Tests.{Decides, every, isZero}
+use Rattle.checks.proofs.Exact.{exact-iff, exact-eqb, exact-leb}
+use Rattle.checks.proofs.Decides.{decides-of, decides-test, decides-iff, decides-same}
+use Rattle.walk.specs.Walk.{FullRight}
+use Rattle.model.specs.Numbers.{unit, mostServed}
+use Rattle.pool.specs.Test.{CountsRight, TailsRight, soundB}
 use Rattle.pool.specs.Pool.{Sound}
-use Rattle.pool.specs.Test.{soundB}
 use Rattle.pool.specs.declared.Pool.{Pool}
-use Rattle.pool.proofs.Marks.{marked-append}
-use Rattle.pool.proofs.Exact.{exact-iff, exact-eqb, exact-leb}
 use Rattle.pool.proofs.Parts.{LimitsIn, CountsIn, LengthsIn, TailsIn, FramesIn, PagesIn, PartsRight, sound-parts, parts-sound}
-use Rattle.pool.proofs.Decides.{decides-of, decides-test, decides-iff, decides-same, limits-decides, soundB-decides}
-use Rattle.pool.proofs.Frames.{frames-exact}
-use Rattle.pool.proofs.Pages.{pages-test, test-pages}
+use Rattle.pool.proofs.Decides.{soundB-decides}
 
 -- ---- numbers
 
@@ -41,28 +39,6 @@ pub tails-last : (e : List ℕ) (en : ℕ) (c : List ℕ) (cn : ℕ) (d : List �
     → Decides t (TailsRight e en c cn d dn page b)
 tails-last e en c cn d dn page b t he hc hd h =
     decides-iff t (λ hp. record { empty = he; clean = hc; dirty = hd; pages = hp }) (λ r. r .pages) (decides-test t _ h)
-
--- ---- frames
-
--- the marks of three lists, made one list after the other
-pub frames-decides : (b : ℕ) (E C D : List ℕ) → b ≤ 256 → length E + (length C + length D) ≡ b
-    → (m1 m2 m3 : List ℕ) → m1 ≡ marked E (replicate 256 0) → m2 ≡ marked C m1 → m3 ≡ marked D m2
-    → (t : Bool) → t ≡ every isSome (take b m3) → Decides t (FramesRight b E C D)
-frames-decides b E C D small sum m1 m2 m3 e1 e2 e3 t e =
-    let all : m3 ≡ marked (E ++ (C ++ D)) (replicate 256 0) = rw (e3, e2, e1, marked-append E (C ++ D) (replicate 256 0), marked-append C D) in
-    let x : t ≡ every isSome (take b (marked (E ++ (C ++ D)) (replicate 256 0))) = e ∙ ap (λ (m : List ℕ). every isSome (take b m)) all in
-    rw x (decides-of (every isSome (take b (marked (E ++ (C ++ D)) (replicate 256 0)))) (frames-exact b E C D small sum))
-
--- ---- pages
-
-pub pages-last : (b N : ℕ) (E page : List ℕ) → 1 ≤ N → b ≤ length page → EmptyRight b E
-    → every (isAtMost (N - 1)) (take b page) ≡ true → blankAll page E ≡ true → count 0 (take b page) ≤ length E + 1
-    → (t : Bool) → t ≡ nonzeroApart page b → Decides t (PagesRight b N E page)
-pages-last b N E page some long right low blank few t e =
-    decides-iff t
-    (λ a. test-pages b N E page some long right (record { low = low; blank = blank; few = few; apart = a }))
-    (λ p. pages-test b N E page some long p .apart)
-    (decides-test t _ e)
 
 -- ---- the whole
 

@@ -2,84 +2,50 @@
 --     test-passed, test-refuted, decides-passed, decides-refuted    behind `if !test`
 --     decides-of, decides-test, decides-iff, decides-same    a test's answer
 --     limits-decides    the numbers
---     heldB-exact, soundB-exact, soundB-decides    a list in its places, and the whole pool
+--     inPlacesB-exact, soundB-exact, soundB-decides    a list in its places, and the whole pool
 -- Assumes nothing.
-use mathlib.Core.Path.{_≡_, refl, sym, _∙_}
-use mathlib.Core.Bool.{Bool, true, false, not, _&&_, false≢true, or-assoc}
+use mathlib.Core.Path.{_≡_, sym}
+use mathlib.Core.Bool.{Bool, _&&_, or-assoc}
 use mathlib.Core.Logic.{_≢_, dite}
+use mathlib.Core.List.{List, _++_}
 use Prim.Native.Nat.{ℕ, _*_, _≤_, _<_}
 use native.Mathlib.Decide.{decLt}
 use native.Mathlib.Omega.{arith}
-use mathlib.Core.List.{List, _++_}
 use lib.ListN.{length, take, drop}
-use borrow.Author.Tests.{not-true, not-false}
 use Rattle.order.specs.Count.{count}
-use Rattle.order.specs.Places.{places, Holds}
+use Rattle.order.specs.Places.{places, InPlaces}
+use Rattle.checks.specs.Tests.{Decides, every, isZero, FramesRight}
+use Rattle.checks.proofs.Counting.{count-three}
+use Rattle.checks.proofs.Exact.{Exact, exact-iff, exact-self, exact-and, exact-not, exact-eqb, exact-leb, exact-ltb, exact-where, exact-everyBelow, exact-every}
+use Rattle.checks.proofs.Frames.{frames-below}
+use Rattle.checks.proofs.Zeros.{zeros-in-places, in-places-zeros, in-places-length}
+use Rattle.checks.proofs.Decides.{decides-of}
 use Rattle.model.specs.Numbers.{Numbers, unit, mostServed, inLimits, Limits}
 use Rattle.model.specs.State.{State, pageIn, resident, standing, framesOf}
 use Rattle.model.specs.Frames.{Blank}
 use Rattle.model.specs.Good.{Good}
-use Rattle.model.proofs.Limits.{limits-hold, hold-limits}
+use Rattle.model.proofs.Limits.{inLimits-limits, limits-inLimits}
 use Rattle.model.proofs.Good.{standing-below}
-use Rattle.pool.specs.Parts.{Decides, every, isZero, CountsRight, FramesRight}
+use Rattle.pool.specs.Test.{CountsRight, framesB, apartB, countsB, goodB, blankB, inPlacesB, soundB}
 use Rattle.pool.specs.Pool.{stateOf, Sound}
-use Rattle.pool.specs.Test.{framesB, apartB, countsB, goodB, blankB, heldB, soundB}
 use Rattle.pool.specs.declared.Pool.{Pool}
-use Rattle.pool.proofs.Counting.{count-three}
-use Rattle.pool.proofs.Exact.{Exact, exact-iff, exact-self, exact-and, exact-not, exact-eqb, exact-leb, exact-ltb, exact-where, exact-everyBelow, exact-every}
-use Rattle.pool.proofs.Parts.{frames-below, zeros-hold, holds-zeros, holds-length, held-whole, sound-held}
-
--- ---- behind `if !test`
-
-pub test-passed : {s t : Bool} → s ≡ t → not s ≡ false → t ≡ true
-test-passed {s} e h = sym e ∙ not-false s h
-
-pub test-refuted : {s t : Bool} → s ≡ t → not s ≡ true → t ≢ true
-test-refuted {s} e h x = false≢true (sym (not-true s h) ∙ e ∙ x)
-
-module _ {A : Type 0} where
-  pub decides-passed : (t : Bool) → Decides t A → not t ≡ false → A
-  decides-passed true d e = d
-  decides-passed false d e = absurd (false≢true (sym e))
-
-  pub decides-refuted : (t : Bool) → Decides t A → not t ≡ true → A → ⊥
-  decides-refuted true d e x = false≢true e
-  decides-refuted false d e x = d x
-
--- ---- a test's answer
-
-pub decides-of : {A : Type 0} (t : Bool) → Exact t A → Decides t A
-decides-of true a = a .holds refl
-decides-of false a = λ x. false≢true (a .test x)
-
-pub decides-test : (s t : Bool) → s ≡ t → Decides s (t ≡ true)
-decides-test s t e = rw e (decides-of t (exact-self t))
-
-pub decides-iff : {A B : Type 0} (t : Bool) → (A → B) → (B → A) → Decides t A → Decides t B
-decides-iff true f g d = f d
-decides-iff false f g d = λ b. d (g b)
-
-pub decides-same : (A : Type 0) (s t : Bool) → Decides s A → Decides t A → s ≡ t
-decides-same A true true d e = refl
-decides-same A true false d e = absurd (e d)
-decides-same A false true d e = absurd (d e)
-decides-same A false false d e = refl
+use Rattle.pool.proofs.Parts.{lists-whole, sound-lists}
 
 -- ---- the numbers
 
 limits-exact : (n : Numbers) → Exact (inLimits n) (Limits n)
-limits-exact n = record { holds = limits-hold n; test = hold-limits n }
+limits-exact n = record { means = inLimits-limits n; test = limits-inLimits n }
 
 pub limits-decides : (n : Numbers) (t : Bool) → t ≡ inLimits n → Decides t (Limits n)
 limits-decides n t e = rw e (decides-of (inLimits n) (limits-exact n))
 
 -- ---- the parts of the test
 
-pub heldB-exact : (list : List ℕ) (n : ℕ) → Exact (heldB list n) (Holds list n (take n list))
-heldB-exact list n =
+pub inPlacesB-exact : (list : List ℕ) (n : ℕ) → Exact (inPlacesB list n) (InPlaces list n (take n list))
+inPlacesB-exact list n =
     exact-iff
-    (λ x. zeros-hold list n (x .0) (x .1 .0) (x .1 .1))
-    (λ h. (holds-length h, (h .fits, holds-zeros h)))
+    (λ x. zeros-in-places list n (x .0) (x .1 .0) (x .1 .1))
+    (λ h. (in-places-length h, (h .fits, in-places-zeros h)))
     (exact-and (exact-eqb (length list) places) (exact-and (exact-leb n places) (exact-self (every isZero (drop n list)))))
 
 module _ (s : State) where
@@ -137,7 +103,8 @@ module _ (s : State) where
           record { once = g .placed .once; others = g .placed .others },
           (
             (g .placed .paged, (λ f l h. g .placed .inside f h, λ f l h n i k e. let m = g .placed .apart f h i k e in omega arith)),
-            record { target-high = g .target-high; served-high = g .counts .served-high; reads-high = g .counts .reads-high; writes-high = g .counts .writes-high },
+            let k = g .counts in
+                record { target-high = g .target-high; served-high = k .served-high; reads-high = k .reads-high; writes-high = k .writes-high },
           ),
         ),
       ))
@@ -168,13 +135,13 @@ soundB-exact p =
     record {
       good = x .1 .0;
       blank = x .1 .1;
-      whole = held-whole p (record { empty = x .0 .0; clean = x .0 .1 .0; dirty = x .0 .1 .1 .0; page = x .0 .1 .1 .1 });
+      whole = lists-whole p (record { empty = x .0 .0; clean = x .0 .1 .0; dirty = x .0 .1 .1 .0; page = x .0 .1 .1 .1 });
     })
-    (λ s. let h = sound-held p s in ((h .empty, (h .clean, (h .dirty, h .page))), (s .good, s .blank)))
+    (λ s. let h = sound-lists p s in ((h .empty, (h .clean, (h .dirty, h .page))), (s .good, s .blank)))
     (exact-and
-    (exact-and (heldB-exact (p .empty) (p .«empty_len»))
-    (exact-and (heldB-exact (p .clean) (p .«clean_len»))
-    (exact-and (heldB-exact (p .dirty) (p .«dirty_len»)) (heldB-exact (p .page) (p .frames)))))
+    (exact-and (inPlacesB-exact (p .empty) (p .«empty_len»))
+    (exact-and (inPlacesB-exact (p .clean) (p .«clean_len»))
+    (exact-and (inPlacesB-exact (p .dirty) (p .«dirty_len»)) (inPlacesB-exact (p .page) (p .frames)))))
     (blankB-exact (stateOf p)))
 
 pub soundB-decides : (p : Pool) → Decides (soundB p) (Sound p)

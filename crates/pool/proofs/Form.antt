@@ -1,23 +1,23 @@
 -- Laws of the form of a pool.
 --     state-pool, sound-of    the pool that holds a good state is sound
 --     pool-empty, pool-clean, pool-dirty    its places hold the lists of the state
---     made    a pool with other lists, pages, target and counts holds the state with these
+--     refilled-is    a pool with other lists, pages, target and counts holds the state with these
 --     find-pad, find-clean, find-dirty    the search for a page over all places is the search over the frames
---     lengths-frames, empty-holds, clean-holds, dirty-holds    the lists of a sound pool
+--     lengths-frames, empty-in-places, clean-in-places, dirty-in-places    the lists of a sound pool
 --     clean-frame, dirty-frame    what stands in C and D is a frame
---     page-pad, page-at, held-page    the page of each frame
+--     page-pad, page-at, listed-page    the page of each frame
 --     writes-fit    the count of physical writes is small
 -- Assumes nothing.
 use mathlib.Core.Path.{_≡_, refl, sym, ap, subst, _∙_}
+use mathlib.Core.List.{List, [], _∷_}
 use Prim.Native.Nat.{ℕ, suc, _+_, _*_, _≤_, _<_}
 use native.Mathlib.Nat.{le-trans, mul-le-mul}
 use native.Mathlib.Omega.{arith}
-use mathlib.Core.List.{List, [], _∷_}
 use lib.ListN.{length, getD, take, List·getD-append}
 use lib.Seq.{take-at}
-use Rattle.order.specs.Places.{places, pad, Holds}
+use Rattle.order.specs.Places.{places, pad, InPlaces}
 use Rattle.order.specs.Find.{findFrom}
-use Rattle.order.proofs.Places.{holds-getD}
+use Rattle.order.proofs.Places.{in-places-getD}
 use Rattle.model.specs.Numbers.{mostServed}
 use Rattle.model.specs.State.{State, framesOf}
 use Rattle.model.specs.Frames.{Blank}
@@ -32,16 +32,18 @@ pub state-pool : (s : State) → length (s .page) ≡ s .numbers .b → stateOf 
 state-pool s h = rw (take-at (s .lists .E) _ _ refl, take-at (s .lists .C) _ _ refl, take-at (s .lists .D) _ _ refl, take-at (s .page) _ _ h)
 
 pub sound-of : (s : State) → Good s → Blank (framesOf s) → Sound (poolOf s)
-sound-of s g b = let e = state-pool s (g .placed .paged) in record { good = rw e g; blank = subst (λ (t : State). Blank (framesOf t)) (sym e) b; whole = ap poolOf (sym e) }
+sound-of s g b =
+    let e = state-pool s (g .placed .paged) in
+    record { good = rw e g; blank = subst (λ (t : State). Blank (framesOf t)) (sym e) b; whole = ap poolOf (sym e) }
 
 module _ (p : Pool) (s : State) (w : p ≡ poolOf s) where
-  pub pool-empty : p .«empty_len» ≤ places → Holds (p .empty) (p .«empty_len») (s .lists .E)
+  pub pool-empty : p .«empty_len» ≤ places → InPlaces (p .empty) (p .«empty_len») (s .lists .E)
   pool-empty h = record { is = ap (λ (q : Pool). q .empty) w; len = sym (ap (λ (q : Pool). q .«empty_len») w); fits = h }
 
-  pub pool-clean : p .«clean_len» ≤ places → Holds (p .clean) (p .«clean_len») (s .lists .C)
+  pub pool-clean : p .«clean_len» ≤ places → InPlaces (p .clean) (p .«clean_len») (s .lists .C)
   pool-clean h = record { is = ap (λ (q : Pool). q .clean) w; len = sym (ap (λ (q : Pool). q .«clean_len») w); fits = h }
 
-  pub pool-dirty : p .«dirty_len» ≤ places → Holds (p .dirty) (p .«dirty_len») (s .lists .D)
+  pub pool-dirty : p .«dirty_len» ≤ places → InPlaces (p .dirty) (p .«dirty_len») (s .lists .D)
   pool-dirty h = record { is = ap (λ (q : Pool). q .dirty) w; len = sym (ap (λ (q : Pool). q .«dirty_len») w); fits = h }
 
 -- pool p with other places, target and counts: a field that nothing of this changes is named here alone
@@ -66,11 +68,12 @@ refilled e en c cn d dn page τ served nR nW p =
       writes = record { 0 = nW };
     }
 
-pub made : (p : Pool) (s : State) (page : List ℕ) {e c d pages : List ℕ} {en cn dn t v r n : ℕ} {E C D : List ℕ} {τ served nR nW : ℕ} → p ≡ poolOf s
-    → Holds e en E → Holds c cn C → Holds d dn D → pages ≡ pad page → t ≡ τ → v ≡ served → r ≡ nR → n ≡ nW
+pub refilled-is : (p : Pool) (s : State) (page : List ℕ) {e c d pages : List ℕ} {en cn dn t v r n : ℕ} {E C D : List ℕ} {τ served nR nW : ℕ} → p ≡ poolOf s
+    → InPlaces e en E → InPlaces c cn C → InPlaces d dn D → pages ≡ pad page → t ≡ τ → v ≡ served → r ≡ nR → n ≡ nW
     → refilled e en c cn d dn pages t v r n p
-    ≡ poolOf (record { numbers = s .numbers; lists = record { E = E; C = C; D = D }; page = page; target = τ; counts = record { served = served; nR = nR; nW = nW } })
-made p s page w he hc hd hp ht hv hr hn =
+    ≡ poolOf
+    (record { numbers = s .numbers; lists = record { E = E; C = C; D = D }; page = page; target = τ; counts = record { served = served; nR = nR; nW = nW } })
+refilled-is p s page w he hc hd hp ht hv hr hn =
     λ i. refilled (he .is i) (sym (he .len) i) (hc .is i) (sym (hc .len) i) (hd .is i) (sym (hd .len) i) (hp i) (ht i) (hv i) (hr i) (hn i) (w i)
 
 -- ---- a search over all places
@@ -87,14 +90,14 @@ module _ (p : Pool) (s : Sound p) where
   pub lengths-frames : p .«empty_len» + (p .«clean_len» + p .«dirty_len») ≡ p .frames
   lengths-frames = ap (λ (q : Pool). q .«empty_len» + (q .«clean_len» + q .«dirty_len»)) (s .whole) ∙ lengths-sum (stateOf p) (s .good)
 
-  pub empty-holds : Holds (p .empty) (p .«empty_len») (stateOf p .lists .E)
-  empty-holds = pool-empty p (stateOf p) (s .whole) (omega (arith, lengths-frames, s .good .limits .b-high))
+  pub empty-in-places : InPlaces (p .empty) (p .«empty_len») (stateOf p .lists .E)
+  empty-in-places = pool-empty p (stateOf p) (s .whole) (omega (arith, lengths-frames, s .good .limits .b-high))
 
-  pub clean-holds : Holds (p .clean) (p .«clean_len») (stateOf p .lists .C)
-  clean-holds = pool-clean p (stateOf p) (s .whole) (omega (arith, lengths-frames, s .good .limits .b-high))
+  pub clean-in-places : InPlaces (p .clean) (p .«clean_len») (stateOf p .lists .C)
+  clean-in-places = pool-clean p (stateOf p) (s .whole) (omega (arith, lengths-frames, s .good .limits .b-high))
 
-  pub dirty-holds : Holds (p .dirty) (p .«dirty_len») (stateOf p .lists .D)
-  dirty-holds = pool-dirty p (stateOf p) (s .whole) (omega (arith, lengths-frames, s .good .limits .b-high))
+  pub dirty-in-places : InPlaces (p .dirty) (p .«dirty_len») (stateOf p .lists .D)
+  dirty-in-places = pool-dirty p (stateOf p) (s .whole) (omega (arith, lengths-frames, s .good .limits .b-high))
 
   pub writes-fit : p .writes .0 ≤ places * mostServed
   writes-fit = le-trans (s .good .counts .writes-high) (mul-le-mul (s .good .limits .b-high) (s .good .counts .served-high))
@@ -102,10 +105,10 @@ module _ (p : Pool) (s : Sound p) where
   -- ---- frames
 
   pub clean-frame : (i : ℕ) → i < p .«clean_len» → getD (p .clean) i 0 < p .frames
-  clean-frame i h = rw (holds-getD clean-holds i h) (C-below (stateOf p) (s .good) i (omega (arith, clean-holds .len)))
+  clean-frame i h = rw (in-places-getD clean-in-places i h) (C-below (stateOf p) (s .good) i (omega (arith, clean-in-places .len)))
 
   pub dirty-frame : (i : ℕ) → i < p .«dirty_len» → getD (p .dirty) i 0 < p .frames
-  dirty-frame i h = rw (holds-getD dirty-holds i h) (D-below (stateOf p) (s .good) i (omega (arith, dirty-holds .len)))
+  dirty-frame i h = rw (in-places-getD dirty-in-places i h) (D-below (stateOf p) (s .good) i (omega (arith, dirty-in-places .len)))
 
   -- ---- pages
 
@@ -118,9 +121,9 @@ module _ (p : Pool) (s : Sound p) where
       ap (λ (l : List ℕ). getD l f 0) page-pad ∙ List·getD-append (stateOf p .page) _ 0 f k
 
   -- the page of the frame at a place of a list
-  pub held-page : {list : List ℕ} {n : ℕ} {xs : List ℕ} → Holds list n xs → (i : ℕ) → i < n → getD list i 0 < p .frames
+  pub listed-page : {list : List ℕ} {n : ℕ} {xs : List ℕ} → InPlaces list n xs → (i : ℕ) → i < n → getD list i 0 < p .frames
       → getD (p .page) (getD list i 0) 0 ≡ getD (stateOf p .page) (getD xs i 0) 0
-  held-page h i l f = page-at _ f ∙ ap (λ (g : ℕ). getD (stateOf p .page) g 0) (holds-getD h i l)
+  listed-page h i l f = page-at _ f ∙ ap (λ (g : ℕ). getD (stateOf p .page) g 0) (in-places-getD h i l)
 
   find-frames : (wanted : ℕ) (fs : List ℕ) → ((i : ℕ) → i < length fs → getD fs i 0 < p .frames)
       → findFrom 0 (p .page) wanted fs ≡ findFrom 0 (stateOf p .page) wanted fs

@@ -1,73 +1,34 @@
 -- What a sound pool is made of.
 --     frames-below, frames-empty    right frames
---     zeros-hold, holds-zeros, holds-length    places that hold a list, and 0 behind it
---     HeldIn, held-whole, sound-held    the lists of a sound pool in their places
+--     zeros-in-places, in-places-zeros, in-places-length    places that hold a list, and 0 behind it
+--     ListsIn, lists-whole, sound-lists    the lists of a sound pool in their places
 --     PartsRight, sound-parts, parts-sound    the parts that the test looks at, one after the other
 -- Assumes nothing.
-use mathlib.Core.Path.{_≡_, refl, sym, ap, _∙_}
-use mathlib.Core.Bool.{true, and-eq-true-iff}
-use mathlib.Core.Logic.{dite}
-use Prim.Native.Nat.{ℕ, zero, suc, _+_, _-_, _≤_, _<_}
-use native.Mathlib.Decide.{decLt}
+use mathlib.Core.Path.{_≡_, sym, ap, _∙_}
+use Prim.Native.Nat.{ℕ, _+_, _≤_, _<_}
 use native.Mathlib.Omega.{arith}
-use mathlib.Core.List.{List, [], _∷_}
-use lib.ListN.{length, getD, take, drop, replicate, length-drop, take-append-drop}
-use lib.Seq.{length-take-le, drop-at, getD-take}
-use borrow.Author.Tests.{eqb-true}
+use lib.ListN.{length, getD, take}
+use lib.Seq.{getD-take}
 use Rattle.order.specs.Count.{count}
-use Rattle.order.specs.Places.{places, Holds}
-use Rattle.order.proofs.Places.{pad-length}
+use Rattle.order.specs.Places.{places, InPlaces}
+use Rattle.checks.specs.Tests.{FramesRight, PagesRight}
+use Rattle.checks.proofs.Zeros.{in-places-zeros, zeros-in-places}
+use Rattle.checks.proofs.Frames.{frames-below}
 use Rattle.model.specs.Numbers.{Limits}
 use Rattle.model.specs.State.{resident, standing}
 use Rattle.model.proofs.Good.{standing-below, lengths-sum}
-use Rattle.pool.specs.Parts.{every, isZero, CountsRight, TailsRight, FramesRight, EmptyRight, PagesRight}
+use Rattle.pool.specs.Test.{CountsRight, TailsRight}
 use Rattle.pool.specs.Pool.{poolOf, numbersIn, stateOf, Sound}
 use Rattle.pool.specs.declared.Pool.{Pool}
-
--- ---- frames
-
-module _ {b : ℕ} {E C D : List ℕ} (r : FramesRight b E C D) where
-  -- what stands in a list is a frame
-  pub frames-below : (f : ℕ) → 1 ≤ count f E + (count f C + count f D) → f < b
-  frames-below f c = dite (decLt f b) (λ l. l) (λ n. absurd (omega (arith, r .others f (omega arith))))
-
-  pub frames-empty : EmptyRight b E
-  frames-empty =
-      record {
-        once = λ f. dite (decLt f b) (λ l. omega (arith, r .once f l)) (λ n. omega (arith, r .others f (omega arith)));
-        others = λ f h. omega (arith, r .others f h);
-      }
-
--- ---- 0 behind a list
-
-zeros-are : (xs : List ℕ) → every isZero xs ≡ true → replicate (length xs) 0 ≡ xs
-zeros-are [] e = refl
-zeros-are (x ∷ xs) e = let a = and-eq-true-iff _ _ .0 e in rw (zeros-are xs (a .1), eqb-true x 0 (a .0))
-
-zeros-pass : (n : ℕ) → every isZero (replicate n 0) ≡ true
-zeros-pass zero = refl
-zeros-pass (suc n) = zeros-pass n
-
-pub zeros-hold : (list : List ℕ) (n : ℕ) → length list ≡ places → n ≤ places → every isZero (drop n list) ≡ true → Holds list n (take n list)
-zeros-hold list n l h e =
-    let k : length (take n list) ≡ n = length-take-le n list (omega arith) in
-    let d : places - n ≡ length (drop n list) = simp length-drop (omega arith) in
-    record { is = rw (k, d, zeros-are (drop n list) e) (sym (take-append-drop n list)); len = k; fits = h }
-
-module _ {list : List ℕ} {n : ℕ} (h : Holds list n (take n list)) where
-  pub holds-zeros : every isZero (drop n list) ≡ true
-  holds-zeros = rw (ap (drop n) (h .is) ∙ drop-at (take n list) _ n (h .len)) (zeros-pass (places - length (take n list)))
-
-  pub holds-length : length list ≡ places
-  holds-length = let l : length (take n list) ≤ places = omega (arith, h .len, h .fits) in ap length (h .is) ∙ pad-length (take n list) l
+use Rattle.pool.proofs.Form.{refilled}
 
 -- ---- the lists in their places
 
-pub record HeldIn (p : Pool) : Type 0 where
-  pub empty : Holds (p .empty) (p .«empty_len») (take (p .«empty_len») (p .empty))
-  pub clean : Holds (p .clean) (p .«clean_len») (take (p .«clean_len») (p .clean))
-  pub dirty : Holds (p .dirty) (p .«dirty_len») (take (p .«dirty_len») (p .dirty))
-  pub page : Holds (p .page) (p .frames) (take (p .frames) (p .page))
+pub record ListsIn (p : Pool) : Type 0 where
+  pub empty : InPlaces (p .empty) (p .«empty_len») (take (p .«empty_len») (p .empty))
+  pub clean : InPlaces (p .clean) (p .«clean_len») (take (p .«clean_len») (p .clean))
+  pub dirty : InPlaces (p .dirty) (p .«dirty_len») (take (p .«dirty_len») (p .dirty))
+  pub page : InPlaces (p .page) (p .frames) (take (p .frames) (p .page))
 
 -- what each part of the test finds out of a pool
 abbrev pub LimitsIn : Pool → Type 0
@@ -98,29 +59,13 @@ pub record PartsRight (p : Pool) : Type 0 where
   pub pages : PagesIn p
 
 module _ (p : Pool) where
-  pub held-whole : HeldIn p → p ≡ poolOf (stateOf p)
-  held-whole h = λ i.
-      record {
-        frames = p .frames;
-        «page_bytes» = p .«page_bytes»;
-        pages = p .pages;
-        «read_cost» = p .«read_cost»;
-        «write_cost» = p .«write_cost»;
-        empty = h .empty .is i;
-        «empty_len» = sym (h .empty .len) i;
-        clean = h .clean .is i;
-        «clean_len» = sym (h .clean .len) i;
-        dirty = h .dirty .is i;
-        «dirty_len» = sym (h .dirty .len) i;
-        page = h .page .is i;
-        target = p .target;
-        served = p .served;
-        reads = p .reads;
-        writes = p .writes;
-      }
+  pub lists-whole : ListsIn p → p ≡ poolOf (stateOf p)
+  lists-whole h =
+      λ i. refilled (h .empty .is i) (sym (h .empty .len) i) (h .clean .is i) (sym (h .clean .len) i) (h .dirty .is i) (sym (h .dirty .len) i) (h .page .is i)
+      (p .target) (p .served) (p .reads .0) (p .writes .0) p
 
-  pub sound-held : Sound p → HeldIn p
-  sound-held s =
+  pub sound-lists : Sound p → ListsIn p
+  sound-lists s =
       let en : length (take (p .«empty_len») (p .empty)) ≡ p .«empty_len» = ap (λ (q : Pool). q .«empty_len») (sym (s .whole)) in
       let cn : length (take (p .«clean_len») (p .clean)) ≡ p .«clean_len» = ap (λ (q : Pool). q .«clean_len») (sym (s .whole)) in
       let dn : length (take (p .«dirty_len») (p .dirty)) ≡ p .«dirty_len» = ap (λ (q : Pool). q .«dirty_len») (sym (s .whole)) in
@@ -142,17 +87,18 @@ module _ (p : Pool) where
   pub sound-parts : Sound p → PartsRight p
   sound-parts s =
       let g = s .good in
-      let h = sound-held s in
+      let k = g .counts in
+      let h = sound-lists s in
       record {
         limits = g .limits;
-        counts = record { target-high = g .target-high; served-high = g .counts .served-high; reads-high = g .counts .reads-high; writes-high = g .counts .writes-high };
+        counts = record { target-high = g .target-high; served-high = k .served-high; reads-high = k .reads-high; writes-high = k .writes-high };
         lengths = omega (arith, lengths-sum (stateOf p) g, h .empty .len, h .clean .len, h .dirty .len);
         tails =
             record {
-              empty = holds-zeros (h .empty);
-              clean = holds-zeros (h .clean);
-              dirty = holds-zeros (h .dirty);
-              pages = holds-zeros (h .page);
+              empty = in-places-zeros (h .empty);
+              clean = in-places-zeros (h .clean);
+              dirty = in-places-zeros (h .dirty);
+              pages = in-places-zeros (h .page);
             };
         frames = record { once = g .placed .once; others = g .placed .others };
         pages =
@@ -174,7 +120,7 @@ module _ (p : Pool) where
                 placed = record {
                   once = r .frames .once;
                   others = r .frames .others;
-                  paged = held .page .len;
+                  paged = lists .page .len;
                   inside = λ f c. rw (page-same f (below f (omega arith))) (r .pages .inside f (below f (omega arith)) (full f c));
                   apart = λ f k c d e.
                       let l : f < p .frames = below f (omega arith) in
@@ -185,18 +131,18 @@ module _ (p : Pool) where
                 counts = record { served-high = r .counts .served-high; reads-high = r .counts .reads-high; writes-high = r .counts .writes-high };
               };
           blank = λ f c. page-same f (below f (omega arith)) ∙ r .pages .blank f c;
-          whole = held-whole held;
+          whole = lists-whole lists;
         }
       where
-        held : HeldIn p
-        held =
+        lists : ListsIn p
+        lists =
             let sum = r .lengths in
             let high = r .limits .b-high in
             record {
-              empty = zeros-hold (p .empty) (p .«empty_len») le (omega arith) (r .tails .empty);
-              clean = zeros-hold (p .clean) (p .«clean_len») lc (omega arith) (r .tails .clean);
-              dirty = zeros-hold (p .dirty) (p .«dirty_len») ld (omega arith) (r .tails .dirty);
-              page = zeros-hold (p .page) (p .frames) lp high (r .tails .pages);
+              empty = zeros-in-places (p .empty) (p .«empty_len») le (omega arith) (r .tails .empty);
+              clean = zeros-in-places (p .clean) (p .«clean_len») lc (omega arith) (r .tails .clean);
+              dirty = zeros-in-places (p .dirty) (p .«dirty_len») ld (omega arith) (r .tails .dirty);
+              page = zeros-in-places (p .page) (p .frames) lp high (r .tails .pages);
             }
 
         below : (f : ℕ) → 1 ≤ standing (stateOf p .lists) f → f < p .frames

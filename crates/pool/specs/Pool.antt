@@ -2,8 +2,8 @@
 --     poolOf     the pool that holds a state: each list in 64 places, the others 0
 --     stateOf    the state that a pool holds
 --     Sound      the pool holds a good state, and 0 in each place without meaning
--- Beside these, the fields of a pool are known to its soundness test (specs/Test, proofs/Parts), to `made` in proofs/Form, to opening (`zeroPool` and `fresh` in `casa`)
--- and to `sweep`, which changes one at a time.
+-- Beside these, the fields of a pool are known to its soundness test (specs/Test, proofs/Parts), to `refilled` in proofs/Form, to opening (`fresh`,
+-- `zeroPool` in `casa`) and to `calls`, which changes one at a time.
 -- Assumes nothing.
 use mathlib.Core.Path.{_≡_}
 use lib.ListN.{length, take}

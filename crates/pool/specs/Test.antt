@@ -1,22 +1,18 @@
 -- Soundness as a test that computes, line by line beside `Good`, `Blank` and `Sound`; `soundB-decides` says that it is true of the sound pools and no other.
 -- Assumes nothing.
-use Prim.Native.Nat.{ℕ, zero, suc, _*_}
+use mathlib.Core.Path.{_≡_}
 use mathlib.Core.Bool.{Bool, true, not, _&&_, _||_}
-use mathlib.Core.List.{List, [], _++_}
+use mathlib.Core.List.{List, _++_}
+use Prim.Native.Nat.{ℕ, _*_, _≤_}
 use lib.Dec.{eqb, leb, ltb}
 use lib.ListN.{length, drop}
 use Rattle.order.specs.Places.{places}
 use Rattle.order.specs.Count.{count}
+use Rattle.checks.specs.Tests.{every, everyBelow, isZero}
 use Rattle.model.specs.Numbers.{inLimits, unit, mostServed}
 use Rattle.model.specs.State.{State, pageIn, resident, standing}
-use Rattle.pool.specs.Parts.{every, isZero}
 use Rattle.pool.specs.Pool.{stateOf}
 use Rattle.pool.specs.declared.Pool.{Pool}
-
--- every number below n passes
-abbrev pub everyBelow : ℕ → (ℕ → Bool) → Bool
-everyBelow zero t = true
-everyBelow (suc n) t = t n && everyBelow n t
 
 -- `once` and `others`
 abbrev pub framesB : State → Bool
@@ -48,13 +44,28 @@ abbrev pub blankB : State → Bool
 blankB s = everyBelow (s .numbers .b) (λ f. eqb (count f (s .lists .E)) 0 || eqb (pageIn s f) 0)
 
 -- the first n of 64 places are a list's, and the others hold 0
-abbrev pub heldB : List ℕ → ℕ → Bool
-heldB list n = eqb (length list) places && (leb n places && every isZero (drop n list))
+abbrev pub inPlacesB : List ℕ → ℕ → Bool
+inPlacesB list n = eqb (length list) places && (leb n places && every isZero (drop n list))
 
 abbrev pub wholeB : Pool → Bool
 wholeB p =
-    heldB (p .empty) (p .«empty_len»)
-    && (heldB (p .clean) (p .«clean_len») && (heldB (p .dirty) (p .«dirty_len») && heldB (p .page) (p .frames)))
+    inPlacesB (p .empty) (p .«empty_len»)
+    && (inPlacesB (p .clean) (p .«clean_len») && (inPlacesB (p .dirty) (p .«dirty_len») && inPlacesB (p .page) (p .frames)))
 
 unfoldable pub soundB : Pool → Bool
 soundB p = wholeB p && (goodB (stateOf p) && blankB (stateOf p))
+
+-- ---- what parts of the test find out
+
+pub record CountsRight (b target served nR nW : ℕ) : Type 0 where
+  pub target-high : target ≤ b * unit
+  pub served-high : served ≤ mostServed
+  pub reads-high : nR ≤ served
+  pub writes-high : nW ≤ b * served
+
+-- the places past the ends hold 0
+pub record TailsRight (e : List ℕ) (en : ℕ) (c : List ℕ) (cn : ℕ) (d : List ℕ) (dn : ℕ) (page : List ℕ) (b : ℕ) : Type 0 where
+  pub empty : every isZero (drop en e) ≡ true
+  pub clean : every isZero (drop cn c) ≡ true
+  pub dirty : every isZero (drop dn d) ≡ true
+  pub pages : every isZero (drop b page) ≡ true

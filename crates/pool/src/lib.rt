@@ -1,15 +1,16 @@
-// The pool, and the test whether it is sound. The test takes any values at all, and reads each list and the pages a fixed number of times.
+// The pool, the test whether it is sound, and a fresh one. The test takes any values at all, and reads each list and the pages a fixed number of times.
 ghost use mathlib.Core.Path.{_≡_};
 ghost use Prim.Native.Nat.{_+_, _≤_};
+ghost use lib.ListN.{length};
 ghost use Rattle.order.specs.Places.{places};
-ghost use Rattle.pool.specs.Test.{soundB};
-ghost use Rattle.pool.specs.Parts.{Decides, CountsRight, hasBefore};
-
-mod frame_test;
-mod full_test;
-mod page_test;
-mod tails;
-
+ghost use Rattle.checks.specs.Tests.{Decides};
+ghost use Rattle.model.specs.Numbers.{numbers};
+ghost use Rattle.model.specs.State.{opened};
+ghost use Rattle.pool.specs.Pool.{poolOf};
+ghost use Rattle.pool.specs.Test.{soundB, CountsRight, TailsRight};
+use checks::frame_test;
+use checks::page_test;
+use checks::tails;
 use model::MOST_SERVED;
 use order::PLACES;
 
@@ -19,20 +20,28 @@ pub struct Reads(pub u64);
 pub struct Writes(pub u64);
 
 pub struct Pool {
+    // b, P and N: frames, 1 to 64; bytes of a page, 16 to 4,096; pages of the store, 1 to 65,536.
     pub frames: usize,
     pub page_bytes: usize,
     pub pages: usize,
+    // r and w: what a physical read and a physical write cost, each 1 to 1,000.
     pub read_cost: u64,
     pub write_cost: u64,
+    // E, C and D: the empty, the clean and the dirty frames, the most recently used first, and 0 in each place past a list's length. Every frame stands in
+    // exactly one of them.
     pub empty: [u8; PLACES],
     pub empty_len: usize,
     pub clean: [u8; PLACES],
     pub clean_len: usize,
     pub dirty: [u8; PLACES],
     pub dirty_len: usize,
+    // The page of each frame: below N and in no other frame; 0 of an empty frame, and in the places past the frames.
     pub page: [u16; PLACES],
+    // The target in units, 65,536 to a page: at most b × 65,536.
     pub target: u64,
+    // The calls served since opening: at most 1,000,000,000.
     pub served: u64,
+    // nR, at most the served calls, and nW, at most b times as many.
     pub reads: Reads,
     pub writes: Writes,
 }
@@ -69,26 +78,37 @@ fn lengths_right(frames: usize, en: usize, cn: usize, dn: usize) -> bool
     dn == frames - en - cn
 }
 
-// ---- pages
+// ---- places without meaning
 
-// Whether the page q stands before place `end`.
-pub fn stands_before(page: &[u16; PLACES], end: usize, q: u16) -> bool
-    requires { ⌜ end ≤ places ⌝ }
-    ensures { λ r. ⌜ r ≡ hasBefore (now (page .entry)) end q ⌝ }
+// Whether the places past the ends hold 0.
+fn tails_right(
+    e: &[u8; PLACES],
+    en: usize,
+    c: &[u8; PLACES],
+    cn: usize,
+    d: &[u8; PLACES],
+    dn: usize,
+    page: &[u16; PLACES],
+    frames: usize,
+) -> bool
+    requires { ⌜ (length (now e) ≡ places) × (length (now c) ≡ places) × (length (now d) ≡ places) × (length (now page) ≡ places) ⌝ }
+    ensures { λ r. ⌜ Decides r (TailsRight (now (e .entry)) en (now (c .entry)) cn (now (d .entry)) dn (now (page .entry)) frames) ⌝ }
 {
-    let mut found = false;
-    let mut i = 0;
-    while i < end {
-        if page[i] == q {
-            found = true;
-        }
-        i += 1;
+    if !tails::zeros8(e, en) {
+        return false;
     }
-    found
+    if !tails::zeros8(c, cn) {
+        return false;
+    }
+    if !tails::zeros8(d, dn) {
+        return false;
+    }
+    tails::zeros16(page, frames)
 }
 
 // ---- the whole
 
+// Whether a pool is sound; any other is broken.
 pub fn sound(pool: Pool) -> bool
     ensures { λ r. ⌜ r ≡ soundB pool ⌝ }
 {
@@ -122,11 +142,11 @@ pub fn sound(pool: Pool) -> bool
     let c = pool.clean;
     let d = pool.dirty;
     let page = pool.page;
-    if !tails::tails_right(&e, en, &c, cn, &d, dn, &page, frames) {
+    if !tails_right(&e, en, &c, cn, &d, dn, &page, frames) {
         return false;
     }
     if en == 0 {
-        if full_test::full_right(&c, cn, &d, dn, &page, frames, pages) {
+        if walk::full_right(&c, cn, &d, dn, &page, frames, pages) {
             return true;
         }
     }
@@ -134,4 +154,43 @@ pub fn sound(pool: Pool) -> bool
         return false;
     }
     page_test::pages_right(&e, en, &page, frames, pages)
+}
+
+// ---- a fresh pool
+
+// A pool of the given numbers whose every frame is empty; with no frames, and every number 0, the pool of all zeros.
+pub fn fresh(
+    frames: usize,
+    page_bytes: usize,
+    pages: usize,
+    read_cost: u64,
+    write_cost: u64,
+) -> Pool
+    requires { ⌜ frames ≤ places ⌝ }
+    ensures { λ r. ⌜ r ≡ poolOf (opened (numbers frames «page_bytes» pages «read_cost» «write_cost»)) ⌝ }
+{
+    let empty = order::all_frames(frames);
+    let clean = [0u8; PLACES];
+    let dirty = [0u8; PLACES];
+    let page = [0u16; PLACES];
+    let reads = Reads(0);
+    let writes = Writes(0);
+    Pool {
+        frames,
+        page_bytes,
+        pages,
+        read_cost,
+        write_cost,
+        empty,
+        empty_len: frames,
+        clean,
+        clean_len: 0,
+        dirty,
+        dirty_len: 0,
+        page,
+        target: 0,
+        served: 0,
+        reads,
+        writes,
+    }
 }

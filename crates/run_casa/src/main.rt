@@ -1,14 +1,15 @@
 // Reads one trace from standard input, serves each record on a store of zero bytes, and prints the listing. What is refused prints only that.
-use casa::Opened;
+// A branch that is marked 'Never' is not taken on a trace that `trace::check` finds fine. It prints all the same, so that a fault in the reason would show.
+ghost use Prim.Native.Nat.{_≤_};
 use casa::Served;
 use libc::STDIN_FILENO;
-use libc::STDOUT_FILENO;
-use model::Answer;
-use model::Costing;
 use model::Flushing;
+use model::Opening;
 use model::Refusal;
 use model::Victim;
 use pool::Pool;
+use tell::number;
+use tell::word;
 use trace::Checked;
 use trace::Next;
 use trace::Record;
@@ -22,21 +23,13 @@ const MOST_FRAMES: usize = 8192;
 
 const MOST_STORE: usize = 32768;
 
-// ---- words and numbers
+const MOST_PAGE: usize = 4096;
 
-fn word(text: &[u8]) {
-    io::write_all(STDOUT_FILENO, text);
-}
+// ---- a line
 
-fn number(n: u64) {
-    word(b" ");
-    io::print_decimal(STDOUT_FILENO, n);
-}
-
-// A refusal by the scope's number; 8 names its record.
+// A refusal is a line of its own; 8 names its record.
 fn refused(why: Refusal) {
-    word(b"refused");
-    number(model::number_of(why));
+    tell::refused(why);
     match why {
         Refusal::BadRecord(record) => {
             word(b" at");
@@ -44,10 +37,8 @@ fn refused(why: Refusal) {
         }
         _ => {}
     }
-    word(b"\n");
+    tell::end();
 }
-
-// ---- a line
 
 // Victim and pages written back.
 fn tell_victim(victim: Victim) {
@@ -64,18 +55,6 @@ fn tell_victim(victim: Victim) {
     }
 }
 
-// Result, victim and pages written back. A checked trace on memory of the right size is never refused.
-fn tell_answer(answer: Answer) {
-    match answer {
-        Answer::Refused(why) => refused(why),
-        Answer::Hit => word(b" hit - 0"),
-        Answer::Fault(victim) => {
-            word(b" fault");
-            tell_victim(victim);
-        }
-    }
-}
-
 // The lengths of the lists, and the target.
 fn tell_pool(pool: Pool) {
     number(pool.clean_len as u64);
@@ -83,21 +62,39 @@ fn tell_pool(pool: Pool) {
     number(pool.target);
 }
 
-// The line of a read or a write: k-th record, its letter and page, what was served, and byte 0 of the page.
+// The line of a read or a write: k-th record, its letter and page, what was served, and byte 0 of the page. Never says 'refused': the record names a page
+// of the pool, memory and output have its sizes, and a trace has far fewer records than calls are served.
 fn tell_request(k: usize, letter: &[u8], page: usize, served: Served, byte: u8) -> Pool {
-    io::print_decimal(STDOUT_FILENO, k as u64);
+    tell::digits(k as u64);
     word(letter);
     number(page as u64);
     let answer = served.answer;
     let pool = served.pool;
-    tell_answer(answer);
+    tell::result(answer);
+    tell_victim(tell::victim_of(answer));
     tell_pool(pool);
     number(byte as u64);
-    word(b"\n");
+    tell::end();
     pool
 }
 
+// Never says 'refused', for the reasons that `tell_request` gives.
+fn tell_flush(answer: Flushing) {
+    match answer {
+        Flushing::Refused(why) => tell::also_refused(why),
+        Flushing::Wrote(pages) => number(pages as u64),
+    }
+}
+
 // ---- one record
+
+// Byte 0 of a page. Never without one: a page has at least 16 bytes.
+fn first_byte(page: &[u8]) -> u8 {
+    if page.len() == 0 {
+        return 0;
+    }
+    page[0]
+}
 
 fn read(
     k: usize,
@@ -107,16 +104,8 @@ fn read(
     store: &mut [u8],
     out: &mut [u8],
 ) -> Pool {
-    let size = pool.page_bytes;
-    if size == 0 {
-        return pool;
-    }
-    if out.len() < size {
-        return pool;
-    }
-    let served = casa::read_page(pool, page, frames, store, &mut out[0..size]);
-    let byte = out[0];
-    tell_request(k, b" R", page, served, byte)
+    let served = casa::read_page(pool, page, frames, store, out);
+    tell_request(k, b" R", page, served, first_byte(out))
 }
 
 fn write(
@@ -134,47 +123,37 @@ fn write(
 
 fn flush(k: usize, pool: Pool, frames: &[u8], store: &mut [u8]) -> Pool {
     let flushed = casa::flush(pool, frames, store);
-    io::print_decimal(STDOUT_FILENO, k as u64);
-    word(b" F - - -");
     let answer = flushed.answer;
     let next = flushed.pool;
-    match answer {
-        Flushing::Refused(why) => refused(why),
-        Flushing::Wrote(pages) => number(pages as u64),
-    }
+    tell::digits(k as u64);
+    word(b" F - - -");
+    tell_flush(answer);
     tell_pool(next);
     word(b" -\n");
     next
 }
 
-fn serve(
-    k: usize,
-    record: Record,
-    pool: Pool,
-    frames: &mut [u8],
-    store: &mut [u8],
-    out: &mut [u8],
-) -> Pool {
-    match record {
-        Record::Read(page) => read(k, page, pool, frames, store, out),
-        Record::Write(page, value) => write(k, page, value, pool, frames, store),
-        Record::Flush => flush(k, pool, frames, store),
-    }
+// Never: the loop ends with the last record, and `trace::check` has read them all.
+fn missing(k: usize, pool: Pool) -> Pool {
+    refused(Refusal::BadRecord(k));
+    pool
 }
 
-// The record at a place, which is the k-th, is served, if there is one.
-fn serve_at(
-    bytes: &[u8],
-    place: usize,
+fn serve(
     k: usize,
+    next: Next,
     pool: Pool,
     frames: &mut [u8],
     store: &mut [u8],
     out: &mut [u8],
 ) -> Pool {
-    match reader::nth(bytes, place) {
-        Next::Record(record) => serve(k, record, pool, frames, store, out),
-        Next::End => pool,
+    match next {
+        Next::End => missing(k, pool),
+        Next::Record(record) => match record {
+            Record::Read(page) => read(k, page, pool, frames, store, out),
+            Record::Write(page, value) => write(k, page, value, pool, frames, store),
+            Record::Flush => flush(k, pool, frames, store),
+        },
     }
 }
 
@@ -184,16 +163,15 @@ fn serve_all(
     pool: Pool,
     frames: &mut [u8],
     store: &mut [u8],
+    out: &mut [u8],
 ) -> Pool {
-    let mut page = [0u8; 4096];
-    let out: &mut [u8] = &mut page;
     let mut now = pool;
     let mut place = 0;
     while place < records {
-        let k = place + 1;
-        let next = serve_at(bytes, place, k, now, frames, store, out);
-        now = next;
-        place = k;
+        let next = reader::nth(bytes, place);
+        place += 1;
+        let after = serve(place, next, now, frames, store, out);
+        now = after;
     }
     now
 }
@@ -204,17 +182,12 @@ fn tell_end(pool: Pool) {
     word(b"end");
     number(pool.reads.0);
     number(pool.writes.0);
-    match casa::total(pool) {
-        Costing::Refused(why) => refused(why),
-        Costing::Total(cost) => {
-            number(cost);
-            word(b"\n");
-        }
-    }
+    tell::total(casa::total(pool));
+    tell::end();
 }
 
-fn run(bytes: &[u8], trailer: Trailer, frames: &mut [u8], store: &mut [u8]) {
-    word(b"request op page result victim writes clean dirty target byte\n");
+// A fresh pool. Never refused: `trace::check` has tested the same numbers.
+fn opened(trailer: Trailer) -> Pool {
     let opened = casa::open(
         trailer.frames,
         trailer.page_bytes,
@@ -222,32 +195,31 @@ fn run(bytes: &[u8], trailer: Trailer, frames: &mut [u8], store: &mut [u8]) {
         trailer.read_cost as u64,
         trailer.write_cost as u64,
     );
-    let pool = opened.pool;
-    let last = serve_all(bytes, trailer.records, pool, frames, store);
+    let answer = opened.answer;
+    match answer {
+        Opening::Refused(why) => refused(why),
+        Opening::Opened => {}
+    }
+    opened.pool
+}
+
+fn run(bytes: &[u8], trailer: Trailer, frames: &mut [u8], store: &mut [u8], out: &mut [u8]) {
+    let pool = opened(trailer);
+    word(b"request op page result victim writes clean dirty target byte\n");
+    let last = serve_all(bytes, trailer.records, pool, frames, store, out);
     tell_end(last);
 }
 
 // Refusal 10, or the run on a store of zero bytes.
-fn run_sized(bytes: &[u8], trailer: Trailer) {
-    let mut frames = [0u8; MOST_FRAMES];
-    let mut store = [0u8; MOST_STORE];
-    let b = trailer.frames;
-    let p = trailer.page_bytes;
-    let n = trailer.pages;
-    if 64 < b {
-        refused(Refusal::OutOfLimits);
-        return;
-    }
-    if 4096 < p {
-        refused(Refusal::OutOfLimits);
-        return;
-    }
-    if 65536 < n {
-        refused(Refusal::OutOfLimits);
-        return;
-    }
-    let frame_bytes = pages::area(b, p);
-    let store_bytes = pages::area(n, p);
+fn run_sized(
+    bytes: &[u8],
+    trailer: Trailer,
+    frame_bytes: usize,
+    store_bytes: usize,
+    page_bytes: usize,
+)
+    requires { ⌜ «page_bytes» ≤ 4096 ⌝ }
+{
     if MOST_FRAMES < frame_bytes {
         refused(Refusal::LargePool);
         return;
@@ -256,18 +228,42 @@ fn run_sized(bytes: &[u8], trailer: Trailer) {
         refused(Refusal::LargePool);
         return;
     }
+    let mut frames = [0u8; MOST_FRAMES];
+    let mut store = [0u8; MOST_STORE];
+    let mut out = [0u8; MOST_PAGE];
     run(
         bytes,
         trailer,
         &mut frames[0..frame_bytes],
         &mut store[0..store_bytes],
+        &mut out[0..page_bytes],
     );
+}
+
+// Never refused: `trace::check` has tested the limits. They are tested again so that the sizes are known to fit.
+fn run_fine(bytes: &[u8], trailer: Trailer) {
+    let b = trailer.frames;
+    let p = trailer.page_bytes;
+    let n = trailer.pages;
+    if 64 < b {
+        refused(Refusal::OutOfLimits);
+        return;
+    }
+    if MOST_PAGE < p {
+        refused(Refusal::OutOfLimits);
+        return;
+    }
+    if 65536 < n {
+        refused(Refusal::OutOfLimits);
+        return;
+    }
+    run_sized(bytes, trailer, pages::area(b, p), pages::area(n, p), p);
 }
 
 fn run_trace(bytes: &[u8]) {
     match trace::check(bytes) {
         Checked::Refused(why) => refused(why),
-        Checked::Fine(trailer) => run_sized(bytes, trailer),
+        Checked::Fine(trailer) => run_fine(bytes, trailer),
     }
 }
 

@@ -1,5 +1,4 @@
--- The laws of `step`: Bounds for the target's sums; Hits, Faults and Requests say what each part leaves. Assumes nothing.
-pub mod Bounds
+-- The laws of `step`: Hits, Faults and Requests say what each part leaves. Assumes nothing.
 pub mod Hits
 pub mod Faults
 pub mod Requests

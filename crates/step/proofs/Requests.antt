@@ -13,7 +13,7 @@ use Rattle.model.specs.declared.Place.the-variants.{InClean, InDirty}
 use Rattle.model.proofs.Steps.{PlaceRight, locate-right}
 use Rattle.pool.specs.Pool.{stateOf, Sound}
 use Rattle.pool.specs.declared.Pool.{Pool}
-use Rattle.pool.proofs.Form.{clean-holds, dirty-holds, find-clean, find-dirty}
+use Rattle.pool.proofs.Form.{clean-in-places, dirty-in-places, find-clean, find-dirty}
 use Rattle.step.specs.Step.{stepOf}
 
 -- the searches of the code find page q where the state has it
@@ -27,10 +27,10 @@ module _ (p : Pool) (s : Sound p) (q : ℕ) (x : Place) (e : x ≡ locate (state
   place-right k = rw (sym e ∙ k) at (locate-right (stateOf p) q)
 
   pub clean-place : {i : ℕ} → x ≡ InClean i → i < p .«clean_len»
-  clean-place k = omega (arith, place-right k .0, clean-holds p s .len)
+  clean-place k = omega (arith, place-right k .0, clean-in-places p s .len)
 
   pub dirty-place : {i : ℕ} → x ≡ InDirty i → i < p .«dirty_len»
-  dirty-place k = omega (arith, place-right k .0, dirty-holds p s .len)
+  dirty-place k = omega (arith, place-right k .0, dirty-in-places p s .len)
 
   -- what is done there
   pub request-is : (k : Costs) (op : Op) {y : Place} → x ≡ y → stepOf (requestAt op k (stateOf p) q y) ≡ stepOf (request op k (stateOf p) q)

@@ -1,20 +1,12 @@
 -- What the functions of a step leave, as the struct that they return.
 -- Assumes nothing.
 use Prim.Native.Nat.{ℕ}
-use Rattle.model.specs.Target.{Costs}
 use Rattle.model.specs.Policy.{Outcome}
 use Rattle.model.specs.State.{State, counted, withPageIn}
 use Rattle.model.specs.Request.{Taken, writesOf}
 use Rattle.pool.specs.Pool.{poolOf}
 use Rattle.step.specs.declared.Step.{Step}
 use Rattle.step.specs.declared.Freed.{Freed}
-
-abbrev pub costs : ℕ → ℕ → Costs
-costs r w = record { r = r; w = w }
-
--- costs in force may be as high as this: 32,768 times of 65,535
-abbrev pub mostCost : ℕ
-mostCost = 2147450880
 
 abbrev pub stepOf : Outcome State → Step
 stepOf o = record { pool = poolOf (o .state); frame = o .frame; answer = o .answer }

@@ -1,32 +1,37 @@
 // The four hits: the page is in C or in D, and is read or written.
 ghost use mathlib.Core.Path.{_≡_};
-ghost use Prim.Native.Nat.{_≤_, _<_};
-ghost use Rattle.model.specs.Request.{readClean, writeClean, writeDirty, readDirty};
+ghost use Prim.Native.Nat.{ℕ, _≤_, _<_};
+ghost use mathlib.Core.List.{List};
+ghost use Rattle.order.specs.Places.{InPlaces};
+ghost use Rattle.model.specs.State.{withLists, withTarget};
+ghost use Rattle.model.specs.Request.{hit, readClean, writeClean, writeDirty, readDirty};
 ghost use Rattle.pool.specs.Pool.{stateOf, Sound};
-ghost use Rattle.step.specs.Step.{costs, mostCost, stepOf};
+ghost use Rattle.model.specs.Target.{costs, mostCost};
+ghost use Rattle.step.specs.Step.{stepOf};
 use crate::Step;
-use crate::policy;
 use model::Answer;
+use order::PLACES;
 use pool::Pool;
 
-pub fn read_clean(pool: Pool, read_cost: u64, write_cost: u64, at: usize) -> Step
+// The pool after a hit on a frame, with C, D and the target as they are then.
+fn hit(
+    pool: Pool,
+    clean: [u8; PLACES],
+    cn: usize,
+    dirty: [u8; PLACES],
+    dn: usize,
+    target: u64,
+    frame: u8,
+) -> Step
     requires { ⌜ Sound pool ⌝ }
-    requires { ⌜ (at < pool .«clean_len») × (1 ≤ «read_cost») × («read_cost» ≤ mostCost) × («write_cost» ≤ mostCost) ⌝ }
-    ensures { λ r. ⌜ r ≡ stepOf (readClean (costs «read_cost» «write_cost») (stateOf pool) at) ⌝ }
+    ensures { λ r. ⌜ ((C D : List ℕ) (τ f : ℕ) → InPlaces clean cn C → InPlaces dirty dn D → target ≡ τ → frame ≡ f
+        → r ≡ stepOf (hit f (withTarget τ (withLists (stateOf pool .lists .E) C D (stateOf pool))))) ⌝ }
 {
-    let clean = pool.clean;
-    let frame = clean[at];
-    let moved = order::move_to_front(clean, at);
-    let target = policy::raise(
-        pool.frames as u64,
-        pool.target,
-        read_cost,
-        write_cost,
-        pool.clean_len as u64,
-        pool.dirty_len as u64,
-    );
     let mut next = pool;
-    next.clean = moved;
+    next.clean = clean;
+    next.clean_len = cn;
+    next.dirty = dirty;
+    next.dirty_len = dn;
     next.target = target;
     next.served = pool.served + 1;
     Step {
@@ -34,6 +39,28 @@ pub fn read_clean(pool: Pool, read_cost: u64, write_cost: u64, at: usize) -> Ste
         frame: frame as usize,
         answer: Answer::Hit,
     }
+}
+
+pub fn read_clean(pool: Pool, read_cost: u64, write_cost: u64, at: usize) -> Step
+    requires { ⌜ Sound pool ⌝ }
+    requires { ⌜ (at < pool .«clean_len») × (1 ≤ «read_cost») × («read_cost» ≤ mostCost) × («write_cost» ≤ mostCost) ⌝ }
+    ensures { λ r. ⌜ r ≡ stepOf (readClean (costs «read_cost» «write_cost») (stateOf pool) at) ⌝ }
+{
+    let clean = pool.clean;
+    let dirty = pool.dirty;
+    let cn = pool.clean_len;
+    let dn = pool.dirty_len;
+    let frame = clean[at];
+    let moved = order::move_to_front(clean, at);
+    let target = reckon::raise(
+        pool.frames as u64,
+        pool.target,
+        read_cost,
+        write_cost,
+        cn as u64,
+        dn as u64,
+    );
+    hit(pool, moved, cn, dirty, dn, target, frame)
 }
 
 pub fn write_clean(pool: Pool, at: usize) -> Step
@@ -48,17 +75,22 @@ pub fn write_clean(pool: Pool, at: usize) -> Step
     let frame = clean[at];
     let rest = order::take_out(clean, at, cn - 1);
     let longer = order::put_front(dirty, dn, frame);
-    let mut next = pool;
-    next.clean = rest;
-    next.clean_len = cn - 1;
-    next.dirty = longer;
-    next.dirty_len = dn + 1;
-    next.served = pool.served + 1;
-    Step {
-        pool: next,
-        frame: frame as usize,
-        answer: Answer::Hit,
-    }
+    hit(pool, rest, cn - 1, longer, dn + 1, pool.target, frame)
+}
+
+// The frame goes to the front of D, and the target becomes this one: a read leaves it as it was.
+pub fn in_dirty(pool: Pool, at: usize, target: u64) -> Step
+    requires { ⌜ Sound pool ⌝ }
+    requires { ⌜ at < pool .«dirty_len» ⌝ }
+    ensures { λ r. ⌜ r ≡ stepOf (readDirty (withTarget target (stateOf pool)) at) ⌝ }
+{
+    let clean = pool.clean;
+    let dirty = pool.dirty;
+    let cn = pool.clean_len;
+    let dn = pool.dirty_len;
+    let frame = dirty[at];
+    let moved = order::move_to_front(dirty, at);
+    hit(pool, clean, cn, moved, dn, target, frame)
 }
 
 pub fn write_dirty(pool: Pool, read_cost: u64, write_cost: u64, at: usize) -> Step
@@ -66,10 +98,7 @@ pub fn write_dirty(pool: Pool, read_cost: u64, write_cost: u64, at: usize) -> St
     requires { ⌜ (at < pool .«dirty_len») × (1 ≤ «read_cost») × («read_cost» ≤ mostCost) × («write_cost» ≤ mostCost) ⌝ }
     ensures { λ r. ⌜ r ≡ stepOf (writeDirty (costs «read_cost» «write_cost») (stateOf pool) at) ⌝ }
 {
-    let dirty = pool.dirty;
-    let frame = dirty[at];
-    let moved = order::move_to_front(dirty, at);
-    let target = policy::lower(
+    let target = reckon::lower(
         pool.frames as u64,
         pool.target,
         read_cost,
@@ -77,32 +106,5 @@ pub fn write_dirty(pool: Pool, read_cost: u64, write_cost: u64, at: usize) -> St
         pool.clean_len as u64,
         pool.dirty_len as u64,
     );
-    let mut next = pool;
-    next.dirty = moved;
-    next.target = target;
-    next.served = pool.served + 1;
-    Step {
-        pool: next,
-        frame: frame as usize,
-        answer: Answer::Hit,
-    }
-}
-
-// Only the order of D changes.
-pub fn read_dirty(pool: Pool, at: usize) -> Step
-    requires { ⌜ Sound pool ⌝ }
-    requires { ⌜ at < pool .«dirty_len» ⌝ }
-    ensures { λ r. ⌜ r ≡ stepOf (readDirty (stateOf pool) at) ⌝ }
-{
-    let dirty = pool.dirty;
-    let frame = dirty[at];
-    let reordered = order::move_to_front(dirty, at);
-    let mut next = pool;
-    next.dirty = reordered;
-    next.served = pool.served + 1;
-    Step {
-        pool: next,
-        frame: frame as usize,
-        answer: Answer::Hit,
-    }
+    in_dirty(pool, at, target)
 }

@@ -6,11 +6,11 @@ ghost use Rattle.order.specs.Places.{places};
 ghost use Rattle.order.specs.Find.{findFrom};
 ghost use Rattle.model.specs.Request.{placeBy, locate, request, flushed};
 ghost use Rattle.pool.specs.Pool.{poolOf, stateOf, Sound};
-ghost use Rattle.step.specs.Step.{costs, mostCost, stepOf};
+ghost use Rattle.model.specs.Target.{costs, mostCost};
+ghost use Rattle.step.specs.Step.{stepOf};
 
 mod fault;
 mod hit;
-mod policy;
 
 use model::Answer;
 use model::Op;
@@ -51,7 +51,7 @@ fn place_of(
     requires { ⌜ ((k : ℕ) → k < dn → getD dirty k 0 < places) ⌝ }
     ensures { λ r. ⌜ r ≡ placeBy (findFrom 0 page wanted (take cn clean)) (findFrom 0 page wanted (take dn dirty)) ⌝ }
 {
-    if !pool::stands_before(&page, PLACES, wanted) {
+    if !order::stands_before(&page, PLACES, wanted) {
         return Place::Absent;
     }
     let in_clean = order::find(clean, cn, page, wanted);
@@ -91,7 +91,7 @@ pub fn read(pool: Pool, read_cost: u64, write_cost: u64, page: usize) -> Step
     let place = locate(pool, wanted);
     match place {
         Place::InClean(i) => hit::read_clean(pool, read_cost, write_cost, i),
-        Place::InDirty(i) => hit::read_dirty(pool, i),
+        Place::InDirty(i) => hit::in_dirty(pool, i, pool.target),
         Place::Absent => fault::read(pool, wanted),
     }
 }

@@ -1,92 +1,83 @@
-// Digests of what calls leave: CRC-32 (reflected), by a table of what eight shifts make of each byte.
+// Digests of what calls leave: CRC-32 (reflected), four bits at a time.
+ghost use Prim.Native.Nat.{_≤_, _*_};
+ghost use lib.ListN.{length};
 use order::PLACES;
 use pool::Pool;
-
-const POLYNOMIAL: u32 = 0xEDB88320;
 
 // A digest starts with every bit set, and is printed with every bit turned.
 pub const FULL: u32 = 0xFFFFFFFF;
 
-// What eight shifts make of a byte.
-fn table_entry(byte: u32) -> u32 {
-    let mut rest = byte;
-    let mut k: usize = 0;
-    while k < 8 {
-        let half = rest >> 1;
-        if rest % 2 == 1 {
-            rest = half ^ POLYNOMIAL;
-        } else {
-            rest = half;
-        }
-        k += 1;
-    }
-    rest
+// What four shifts make of each four bits.
+const SHIFTED: [u32; 16] = [
+    0x00000000,
+    0x1DB71064,
+    0x3B6E20C8,
+    0x26D930AC,
+    0x76DC4190,
+    0x6B6B51F4,
+    0x4DB26158,
+    0x5005713C,
+    0xEDB88320,
+    0xF00F9344,
+    0xD6D6A3E8,
+    0xCB61B38C,
+    0x9B64C2B0,
+    0x86D3D2D4,
+    0xA00AE278,
+    0xBDBDF21C,
+];
+
+// The lowest four bits go in.
+fn absorb_bits(digest: u32, bits: u32) -> u32 {
+    let at = ((digest ^ bits) % 16) as usize;
+    (digest >> 4) ^ SHIFTED[at]
 }
 
-pub fn digest_table() -> [u32; 256] {
-    let mut table = [0u32; 256];
-    let mut n = 0;
-    while n < 256 {
-        table[n] = table_entry(n as u32);
-        n += 1;
-    }
-    table
+fn absorb_byte(digest: u32, byte: u8) -> u32 {
+    let bits = byte as u32;
+    absorb_bits(absorb_bits(digest, bits), bits >> 4)
 }
 
-fn absorb_byte(table: &[u32; 256], digest: u32, byte: u8) -> u32 {
-    let mixed = digest ^ (byte as u32);
-    let at = (mixed % 256) as usize;
-    (digest >> 8) ^ table[at]
-}
-
-pub fn absorb_bytes(table: &[u32; 256], digest: u32, bytes: &[u8]) -> u32 {
+pub fn absorb_bytes(digest: u32, bytes: &[u8]) -> u32 {
     let mut now = digest;
     let mut i = 0;
     while i < bytes.len() {
-        now = absorb_byte(table, now, bytes[i]);
+        now = absorb_byte(now, bytes[i]);
         i += 1;
     }
     now
 }
 
-// A number as 8 bytes, low byte first.
-pub fn absorb_number(table: &[u32; 256], digest: u32, n: u64) -> u32 {
-    let mut bytes = [0u8; 8];
-    little::put(&mut bytes, n);
-    absorb_bytes(table, digest, &bytes)
+// The most bytes that numbers make: those of the pages of a pool.
+const MOST: usize = 128;
+
+// Each number in `width` bytes, low byte first.
+pub fn absorb_numbers(digest: u32, width: usize, numbers: &[u64]) -> u32
+    requires { ⌜ length (now numbers) * width ≤ 128 ⌝ }
+{
+    let mut space = [0u8; MOST];
+    let n = numbers.len() * width;
+    let bytes: &mut [u8] = &mut space[0..n];
+    little::put_all(bytes, width, numbers);
+    absorb_bytes(digest, bytes)
 }
 
-// How many numbers a pool has.
-const NUMBERS: usize = 12;
-
-fn absorb_numbers(table: &[u32; 256], digest: u32, numbers: &[u64; NUMBERS]) -> u32 {
-    let mut now = digest;
-    let mut i = 0;
-    while i < NUMBERS {
-        now = absorb_number(table, now, numbers[i]);
-        i += 1;
-    }
-    now
+fn wide(page: u16) -> u64 {
+    page as u64
 }
 
-// A page number as 2 bytes, low byte first.
-fn absorb_page(table: &[u32; 256], digest: u32, page: u16) -> u32 {
-    let low = absorb_byte(table, digest, (page % 256) as u8);
-    absorb_byte(table, low, (page / 256) as u8)
-}
-
-fn absorb_pages(table: &[u32; 256], digest: u32, pages: &[u16; PLACES]) -> u32 {
-    let mut now = digest;
+// Pages as numbers, so that they are absorbed as the numbers are.
+fn widened(pages: &[u16; PLACES]) -> [u64; PLACES] {
+    let mut numbers = [0u64; PLACES];
     let mut i = 0;
     while i < PLACES {
-        now = absorb_page(table, now, pages[i]);
+        numbers[i] = wide(pages[i]);
         i += 1;
     }
-    now
+    numbers
 }
 
-// The numbers of a pool, then every place of its lists and every page, those without meaning too.
-pub fn absorb_pool(table: &[u32; 256], digest: u32, pool: Pool) -> u32 {
+fn absorb_counts(digest: u32, pool: Pool) -> u32 {
     let numbers = [
         pool.frames as u64,
         pool.page_bytes as u64,
@@ -101,13 +92,19 @@ pub fn absorb_pool(table: &[u32; 256], digest: u32, pool: Pool) -> u32 {
         pool.reads.0,
         pool.writes.0,
     ];
+    absorb_numbers(digest, 8, &numbers)
+}
+
+// The numbers of a pool, then every place of its lists and every page, those without meaning too.
+pub fn absorb_pool(digest: u32, pool: Pool) -> u32 {
     let empty = pool.empty;
     let clean = pool.clean;
     let dirty = pool.dirty;
     let page = pool.page;
-    let with_numbers = absorb_numbers(table, digest, &numbers);
-    let with_empty = absorb_bytes(table, with_numbers, &empty);
-    let with_clean = absorb_bytes(table, with_empty, &clean);
-    let with_dirty = absorb_bytes(table, with_clean, &dirty);
-    absorb_pages(table, with_dirty, &page)
+    let with_counts = absorb_counts(digest, pool);
+    let with_empty = absorb_bytes(with_counts, &empty);
+    let with_clean = absorb_bytes(with_empty, &clean);
+    let with_dirty = absorb_bytes(with_clean, &dirty);
+    let pages = widened(&page);
+    absorb_numbers(with_dirty, 2, &pages)
 }

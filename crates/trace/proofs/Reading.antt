@@ -1,14 +1,14 @@
 -- What the reader finds, told from what the check says of the trace, where it begins and where it goes on. One that the library made of a refused trace
 -- begins where there is no record; where there is none it stays; so it finds none, however often it is moved. Assumes nothing.
 use mathlib.Core.Path.{_≡_, refl, ap, _∙_}
-use mathlib.Core.Bool.{Bool, true, false}
+use mathlib.Core.Bool.{Bool, true, false, cond as if-else}
 use mathlib.Core.List.{List, [], _∷_}
 use Prim.Native.Nat.{ℕ, zero, suc, _+_, _*_, _-_, _≤_, _<_}
 use native.Mathlib.Omega.{arith}
 use lib.Dec.{eqb, ltb}
 use lib.ListN.{length}
 use borrow.Author.Tests.{lt-ltb, le-ltb, eqb-true, eqb-false}
-use Rattle.model.specs.Numbers.{if-else, meant}
+use Rattle.model.specs.Numbers.{meant}
 use Rattle.model.specs.Refusals.{first, verdictBy, outOfLimits}
 use Rattle.model.specs.declared.Refusal.{Refusal}
 use Rattle.model.specs.declared.Refusal.the-variants.{OutOfLimits, NotATrace, BadRecord}
@@ -19,7 +19,8 @@ use Rattle.trace.specs.declared.Checked.the-variants.{Refused, Fine}
 use Rattle.trace.specs.declared.Record.{Record}
 use Rattle.trace.specs.declared.Next.{Next}
 use Rattle.trace.specs.declared.Next.the-variants.{Record as Found, End}
-use Rattle.trace.specs.Format.{trailerLength, trailerAt, numbersIn, pointsBack, notATrace, checkedBy, judged, headerOf, recordIn, startOf, recordAt, isEnd, placeAfter, badIn, checkedAll, checkedOf, firstPlace, placeAfterMoves}
+use Rattle.trace.specs.Format.{trailerLength, trailerAt, numbersIn, pointsBack, notATrace, checkedBy, judged, headerOf, recordIn}
+use Rattle.trace.specs.Format.{startOf, recordAt, isEnd, placeAfter, badIn, checkedAll, checkedOf, firstPlace, placeAfterMoves}
 use Rattle.trace.proofs.Trailers.{header-accepts}
 use Rattle.trace.proofs.Records.{firstBad-none, firstBad-at}
 

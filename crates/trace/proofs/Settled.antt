@@ -1,4 +1,5 @@
 -- The promises on traces settle the answers: no two answers say the same, so two answers that a promise allows are equal. Assumes nothing.
+use mathlib.Core.Bool.{cond as if-else}
 use mathlib.Core.Path.{_≡_, refl, sym, ap, _∙_}
 use mathlib.Core.List.{List}
 use Prim.Native.Nat.{ℕ}
@@ -6,7 +7,6 @@ use native.Mathlib.Omega.{arith}
 use lib.Dec.{eqb}
 use lib.ListN.{getD}
 use denote.Ref.{RefT, now}
-use Rattle.model.specs.Numbers.{if-else}
 use Rattle.model.proofs.Words.{refusal-one-to-one}
 use Rattle.trace.specs.declared.Checked.{Checked}
 use Rattle.trace.specs.declared.Checked.the-variants.{Refused, Fine}

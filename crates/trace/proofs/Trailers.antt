@@ -1,13 +1,13 @@
 -- Laws of the trailer: what is known of one that is not refused. Assumes nothing.
 use mathlib.Core.Path.{_≡_, refl}
-use mathlib.Core.Bool.{Bool, true, false}
+use mathlib.Core.Bool.{Bool, true, false, cond as if-else}
 use mathlib.Core.List.{List}
 use Prim.Native.Nat.{ℕ, _+_, _*_, _≤_}
 use native.Mathlib.Omega.{arith}
 use lib.ListN.{length}
 use lib.Dec.{ltb}
 use borrow.Author.Tests.{eqb-true, leb-true}
-use Rattle.model.specs.Numbers.{if-else, inLimits, meant}
+use Rattle.model.specs.Numbers.{inLimits, meant}
 use Rattle.model.specs.Refusals.{first}
 use Rattle.model.proofs.Refusals.{first-clear, not-false, and-both}
 use Rattle.model.specs.declared.Refusal.the-variants.{NotATrace}

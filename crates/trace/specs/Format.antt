@@ -7,12 +7,12 @@
 -- The distance goes from the end of the file back to the first record.
 -- Assumes nothing.
 use Prim.Native.Nat.{ℕ, zero, suc, _+_, _*_, _-_}
-use mathlib.Core.Bool.{Bool, true, false, not, _&&_}
+use mathlib.Core.Bool.{Bool, true, false, not, _&&_, cond as if-else}
 use mathlib.Core.List.{List, [], _∷_}
 use lib.Dec.{eqb, leb, ltb}
 use lib.ListN.{length, getD, take, drop}
 use Rattle.little.specs.Little.{numberOf}
-use Rattle.model.specs.Numbers.{Numbers, if-else, meant}
+use Rattle.model.specs.Numbers.{Numbers, meant}
 use Rattle.model.specs.Refusals.{Row, first, outOfLimits}
 use Rattle.model.specs.Words.{namedBy}
 use Rattle.model.specs.declared.Refusal.the-variants.{NotATrace, BadRecord}

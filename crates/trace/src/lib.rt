@@ -3,11 +3,14 @@
 pub mod reader;
 
 ghost use mathlib.Core.Path.{_≡_};
+ghost use mathlib.Core.Bool.{cond as if-else};
 ghost use Prim.Native.Nat.{_+_, _*_, _≤_, _<_, _^_};
 ghost use lib.ListN.{length};
 ghost use Rattle.model.specs.Numbers.{inLimits, meant};
-ghost use Rattle.trace.specs.Format.{numberAt, trailerAt, numbersIn, pointsBack, judged, headerOf, recordOf, recordIn, recordAt, firstBad, checkedOf, placeAfter, firstPlace};
+ghost use Rattle.trace.specs.Format.{numberAt, trailerAt, numbersIn, pointsBack, judged, headerOf};
+ghost use Rattle.trace.specs.Format.{recordOf, recordIn, recordAt, firstBad, checkedOf, placeAfter, firstPlace};
 ghost use Rattle.trace.specs.Words.{checkedSays, nextSays};
+ghost use Rattle.trace.specs.declared.Next.the-variants.{Record as Found, End};
 use model::Refusal;
 use model::USUAL_READ;
 use model::USUAL_WRITE;
@@ -45,37 +48,30 @@ const TRAILER: usize = 20;
 
 // ---- numbers
 
-// A number of two bytes, and one of four, from byte `at` on.
-fn number2(bytes: &[u8], at: usize) -> usize
-    requires { ⌜ at + 2 ≤ length (now bytes) ⌝ }
-    ensures { λ r. ⌜ (r ≡ numberAt at 2 (now (bytes .entry))) × (r < 2 ^ 16) ⌝ }
+// The number that the `width` bytes from byte `at` on spell.
+fn number(bytes: &[u8], at: usize, width: usize) -> usize
+    requires { ⌜ (width ≤ 4) × (at + width ≤ length (now bytes)) ⌝ }
+    ensures { λ r. ⌜ (r ≡ numberAt at width (now (bytes .entry))) × (r < 256 ^ width) ⌝ }
 {
-    let end = at + 2;
-    little::get(&bytes[at..end]) as usize
-}
-
-fn number4(bytes: &[u8], at: usize) -> usize
-    requires { ⌜ at + 4 ≤ length (now bytes) ⌝ }
-    ensures { λ r. ⌜ (r ≡ numberAt at 4 (now (bytes .entry))) × (r < 2 ^ 32) ⌝ }
-{
-    let end = at + 4;
+    let end = at + width;
     little::get(&bytes[at..end]) as usize
 }
 
 // ---- the trailer
 
+// The trailer whose 20 bytes start at byte `at`.
 fn trailer_at(bytes: &[u8], at: usize) -> Trailer
     requires { ⌜ at + 20 ≤ length (now bytes) ⌝ }
     ensures { λ r. ⌜ (r ≡ trailerAt (now (bytes .entry)) at) × (r .records < 2 ^ 32) ⌝ }
 {
     Trailer {
-        distance: number4(bytes, at),
-        records: number4(bytes, at + 4),
-        frames: number2(bytes, at + 8),
-        page_bytes: number2(bytes, at + 10),
-        pages: number4(bytes, at + 12),
-        read_cost: number2(bytes, at + 16),
-        write_cost: number2(bytes, at + 18),
+        distance: number(bytes, at, 4),
+        records: number(bytes, at + 4, 4),
+        frames: number(bytes, at + 8, 2),
+        page_bytes: number(bytes, at + 10, 2),
+        pages: number(bytes, at + 12, 4),
+        read_cost: number(bytes, at + 16, 2),
+        write_cost: number(bytes, at + 18, 2),
     }
 }
 
@@ -114,6 +110,7 @@ fn numbers_allowed(trailer: Trailer) -> bool
     )
 }
 
+// The trailer of a file of n bytes, or refusal 7 or 1, in that order.
 fn judge(n: usize, trailer: Trailer) -> Checked
     requires { ⌜ trailer .records < 2 ^ 32 ⌝ }
     ensures { λ r. ⌜ r ≡ judged n trailer ⌝ }
@@ -127,72 +124,36 @@ fn judge(n: usize, trailer: Trailer) -> Checked
     Checked::Fine(trailer)
 }
 
-fn read_header(bytes: &[u8]) -> Checked
-    ensures { λ r. ⌜ r ≡ headerOf (now (bytes .entry)) ⌝ }
-{
-    let n = bytes.len();
-    if n < TRAILER {
-        return Checked::Refused(Refusal::NotATrace);
-    }
-    let trailer = trailer_at(bytes, n - TRAILER);
-    judge(n, trailer)
-}
-
 // ---- records
 
-// The record of four bytes, or none where 8 would refuse it.
-fn record_of(letter: u8, value: u8, page: usize, pages: usize) -> Next
-    ensures { λ r. ⌜ r ≡ recordOf pages letter value page ⌝ }
+// The record that was read, where it is fine; else none.
+fn found(fine: bool, read: Record) -> Next
+    ensures { λ r. ⌜ r ≡ if-else fine (Found read) End ⌝ }
 {
-    if letter == b'R' {
-        if value == 0 {
-            if page < pages {
-                return Next::Record(Record::Read(page));
-            }
-        }
-        return Next::End;
-    }
-    if letter == b'W' {
-        if page < pages {
-            return Next::Record(Record::Write(page, value));
-        }
-        return Next::End;
-    }
-    if letter == b'F' {
-        if value == 0 {
-            if page == 0 {
-                return Next::Record(Record::Flush);
-            }
-        }
-        return Next::End;
+    if fine {
+        return Next::Record(read);
     }
     Next::End
 }
 
+// The record that a letter, a value and a page make, or none where 8 would refuse it.
+fn record_of(letter: u8, value: u8, page: usize, pages: usize) -> Next
+    ensures { λ r. ⌜ r ≡ recordOf pages letter value page ⌝ }
+{
+    match letter {
+        b'R' => return found((value == 0) & (page < pages), Record::Read(page)),
+        b'W' => return found(page < pages, Record::Write(page, value)),
+        b'F' => return found((value == 0) & (page == 0), Record::Flush),
+        _ => return Next::End,
+    }
+}
+
+// The record whose four bytes start at byte `at`, or none where 8 would refuse it.
 fn record_in(bytes: &[u8], at: usize, pages: usize) -> Next
     requires { ⌜ at + 4 ≤ length (now bytes) ⌝ }
     ensures { λ r. ⌜ r ≡ recordIn (now (bytes .entry)) at pages ⌝ }
 {
-    record_of(bytes[at], bytes[at + 1], number2(bytes, at + 2), pages)
-}
-
-fn read_record(bytes: &[u8], place: usize) -> Next
-    ensures { λ r. ⌜ r ≡ recordAt (now (bytes .entry)) place ⌝ }
-{
-    match read_header(bytes) {
-        Checked::Refused(_) => Next::End,
-        Checked::Fine(trailer) => {
-            if place < trailer.records {
-                record_in(
-                    bytes,
-                    bytes.len() - trailer.distance + 4 * place,
-                    trailer.pages,
-                )
-            } else {
-                Next::End
-            }
-        }
-    }
+    record_of(bytes[at], bytes[at + 1], number(bytes, at + 2, 2), pages)
 }
 
 // The number, from 1, of the first of the records that 8 refuses, or 0.
@@ -214,41 +175,35 @@ fn first_bad(bytes: &[u8], start: usize, records: usize, pages: usize) -> usize
     0
 }
 
-fn read_all(bytes: &[u8]) -> Checked
-    ensures { λ r. ⌜ r ≡ checkedOf (now (bytes .entry)) ⌝ }
-{
-    match read_header(bytes) {
-        Checked::Refused(why) => Checked::Refused(why),
-        Checked::Fine(trailer) => {
-            let bad = first_bad(
-                bytes,
-                bytes.len() - trailer.distance,
-                trailer.records,
-                trailer.pages,
-            );
-            if bad == 0 {
-                Checked::Fine(trailer)
-            } else {
-                Checked::Refused(Refusal::BadRecord(bad))
-            }
-        }
-    }
-}
-
 // ---- the public functions
 
 // The trailer, or refusal 7 or 1. No record is looked at.
 pub fn header(bytes: &[u8]) -> Checked
     ensures { λ r. ⌜ checkedSays r ≡ checkedSays (headerOf (now (bytes .entry))) ⌝ }
 {
-    read_header(bytes)
+    let n = bytes.len();
+    if n < TRAILER {
+        return Checked::Refused(Refusal::NotATrace);
+    }
+    judge(n, trailer_at(bytes, n - TRAILER))
 }
 
 // The trailer of a trace whose every record is right, or refusal 7, 1 or 8.
 pub fn check(bytes: &[u8]) -> Checked
     ensures { λ r. ⌜ checkedSays r ≡ checkedSays (checkedOf (now (bytes .entry))) ⌝ }
 {
-    read_all(bytes)
+    let read = header(bytes);
+    match read {
+        Checked::Refused(_) => return read,
+        Checked::Fine(trailer) => {
+            let start = bytes.len() - trailer.distance;
+            let bad = first_bad(bytes, start, trailer.records, trailer.pages);
+            if bad != 0 {
+                return Checked::Refused(Refusal::BadRecord(bad));
+            }
+            return read;
+        }
+    }
 }
 
 // The record at a place, counted from 0. There is none past the last, where 7 or 1 would refuse the bytes, or where 8 would refuse this record; faults of
@@ -256,16 +211,25 @@ pub fn check(bytes: &[u8]) -> Checked
 pub fn record_at(bytes: &[u8], place: usize) -> Next
     ensures { λ r. ⌜ nextSays r ≡ nextSays (recordAt (now (bytes .entry)) place) ⌝ }
 {
-    read_record(bytes, place)
+    match header(bytes) {
+        Checked::Refused(_) => return Next::End,
+        Checked::Fine(trailer) => {
+            let start = bytes.len() - trailer.distance;
+            if place < trailer.records {
+                return record_in(bytes, start + 4 * place, trailer.pages);
+            }
+            return Next::End;
+        }
+    }
 }
 
 // The place after the record at `place`; where there is none, the same place.
 pub fn place_after(bytes: &[u8], place: usize) -> usize
     ensures { λ r. ⌜ r ≡ placeAfter (now (bytes .entry)) place ⌝ }
 {
-    match read_record(bytes, place) {
-        Next::Record(_) => place + 1,
-        Next::End => place,
+    match record_at(bytes, place) {
+        Next::Record(_) => return place + 1,
+        Next::End => return place,
     }
 }
 
@@ -274,11 +238,11 @@ pub fn place_after(bytes: &[u8], place: usize) -> usize
 pub fn first_place(trace: &[u8]) -> usize
     ensures { λ r. ⌜ r ≡ firstPlace (now (trace .entry)) ⌝ }
 {
-    match read_all(trace) {
+    match check(trace) {
         Checked::Refused(why) => match why {
-            Refusal::BadRecord(record) => record - 1,
-            _ => 0,
+            Refusal::BadRecord(record) => return record - 1,
+            _ => return 0,
         },
-        Checked::Fine(_) => 0,
+        Checked::Fine(_) => return 0,
     }
 }

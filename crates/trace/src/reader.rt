@@ -32,11 +32,9 @@ pub fn next<'a>(r: Reader<'a>) -> Next
 pub fn moved<'a>(r: Reader<'a>) -> Reader<'a>
     ensures { λ q. ⌜ (q .trace ≡ r .entry .trace) × (q .place ≡ placeAfter (now (r .entry .trace)) (r .entry .place)) ⌝ }
 {
-    let place = place_after(r.trace, r.place);
-    Reader {
-        trace: r.trace,
-        place,
-    }
+    let trace = r.trace;
+    let place = place_after(trace, r.place);
+    Reader { trace, place }
 }
 
 // The record at a place of a plain slice.

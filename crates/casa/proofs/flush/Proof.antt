@@ -1,55 +1,43 @@
 -- `casa::flush` meets its contract, by the verdict: refused, everything is as it was; else the call may be served. Assumes nothing.
-use mathlib.Core.Path.{_∙_}
-use lib.ListN.{length}
-use Rattle.model.specs.Run.{flush}
+use mathlib.Core.Path.{_≡_, sym, _∙_}
 use borrow.Author.Needs.{needs}
-use Rattle.casa.proofs.Calls.{flush-allowed, call-refused, call-served, flush-verdict}
+use Rattle.model.specs.Run.{World, flush, verdictOf}
+use Rattle.model.proofs.Refusals.{flush-ready}
+use Rattle.pool.specs.declared.Pool.{Pool}
+use Rattle.casa.specs.Calls.{pools, worldOf}
+use Rattle.casa.proofs.Calls.{sound-is, sound-sizes, call-refused, call-served, flush-verdict}
 use Rattle.casa.proofs.flush.Statement.{statement}
 use Rattle.casa.proofs.flush.Tie as tie
 
-flush-verdict-requires : tie.Need-flush-verdict-requires
-flush-verdict-requires c κs = search needs
+-- ---- behind the verdict: the world that the call is made in, and that the verdict is the call's
 
-enum-known-verdict : tie.Need-enum-known-verdict
-enum-known-verdict c = search needs
+abbrev world : tie.After-request-verdict → World Pool
+world c = let a = c .before .before .before .before .args in worldOf (a .pool) (a .frames .now) (a .store .now)
 
-enum-told : tie.Need-enum-told
-enum-told c = search needs
+told : (c : tie.After-request-verdict) → c .request-verdict .result ≡ verdictOf pools (world c) flush
+told c = flush-verdict (world c) (c .request-verdict .result) (c .before .sound .result) (c .before .sound .ensures) (c .request-verdict .ensures)
 
-serve-flush-requires : tie.Need-serve-flush-requires
-serve-flush-requires c κs =
-    let a = c .before .before .before .before .before .before .args in
-    let verdict = c .before .before .before .flush-verdict in
-    let ok = flush-allowed (a .pool) (length (a .frames .now)) (length (a .store .now)) (verdict .result) (verdict .ensures)
-    (c .before .enum-told .given .1) in
-    (ok .sound, ok .lent)
+-- ---- the needs
+
+request-verdict-requires : tie.Need-request-verdict-requires
+request-verdict-requires c κs e = sound-sizes _ (sym (c .sound .ensures) ∙ e)
+
+flush-requires : tie.Need-flush-requires
+flush-requires c κs =
+    let at = c .before .before .before in
+    let ok = flush-ready pools (world at) (sym (told at) ∙ c .before .enum-told .given .1) in
+    (sound-is _ (ok .0), ok .1)
 
 returns : tie.Need-returns
-returns c =
-    let a = c .before .before .before .before .before .before .args in
-    let verdict = c .before .before .before .flush-verdict in
-    call-refused (a .pool) (a .frames .now) (a .store .now) flush (verdict .result) (verdict .ensures ∙ flush-verdict (a .pool) (a .frames .now) (a .store .now)) _
-    (c .before .verdict .given .1)
-
-same-length : tie.Need-same-length
-same-length c = search needs
+returns c = let at = c .before .before .before in call-refused (world at) flush _ (told at) _ (c .before .verdict .given .1)
 
 returns-2 : tie.Need-returns-2
 returns-2 c =
-    let a = c .before .before .before .before .before .before .before .before .before .args in
-    let verdict = c .before .before .before .before .before .before .flush-verdict in
-    let enum-told = c .before .before .before .before .enum-told in
-    c .before .before .serve-flush .ensures
-    ∙ call-served (a .pool) (a .frames .now) (a .store .now) flush (verdict .result) (verdict .ensures ∙ flush-verdict (a .pool) (a .frames .now) (a .store .now)) (enum-told .given .1)
+    let at = c .before .before .before .before .before .before in
+    let told-fine = c .before .before .before .before .enum-told .given .1 in
+    c .before .before .flush .ensures ∙ call-served (world at) flush _ (told at) told-fine
 
 pub flush-spec : {M : Type 1} → statement M
 flush-spec =
-    tie.close
-    (tie.spec
-    flush-verdict-requires
-    enum-known-verdict
-    enum-told
-    serve-flush-requires
-    returns
-    same-length
-    returns-2)
+    tie.close (tie.spec (λ c κs. search needs) request-verdict-requires (λ c. search needs) (λ c. search needs) flush-requires returns
+    (λ c. search needs) returns-2)

@@ -6,14 +6,8 @@ use Rattle.casa.proofs.Opening.{open-usual, open-read-cost, open-write-
 use Rattle.casa.proofs.open.Statement.{statement}
 use Rattle.casa.proofs.open.Tie as tie
 
-open-with-requires : tie.Need-open-with-requires
-open-with-requires c κs = search needs
-
 returns : tie.Need-returns
 returns c = c .open-with .ensures ∙ open-usual _ _ _ _ _ (c .before .before .if1 .taken) (c .before .if2 .taken)
-
-open-with-requires-2 : tie.Need-open-with-requires-2
-open-with-requires-2 c κs = search needs
 
 returns-2 : tie.Need-returns-2
 returns-2 c =
@@ -21,4 +15,4 @@ returns-2 c =
     (c .before .if1 .came)
 
 pub open-spec : {M : Type 1} → statement M
-open-spec = tie.close (tie.spec open-with-requires returns open-with-requires-2 returns-2)
+open-spec = tie.close (tie.spec (λ c κs. search needs) returns (λ c κs. search needs) returns-2)

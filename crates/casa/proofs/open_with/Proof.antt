@@ -2,17 +2,11 @@
 use mathlib.Core.Path.{sym, _∙_}
 use borrow.Author.Needs.{needs}
 use borrow.Author.Tests.{not-true, not-false}
-use Rattle.model.proofs.Limits.{limits-hold}
-use Rattle.casa.specs.Calls.{numbers}
+use Rattle.model.specs.Numbers.{numbers}
+use Rattle.model.proofs.Limits.{inLimits-limits}
 use Rattle.casa.proofs.Opening.{open-refused, open-fine}
 use Rattle.casa.proofs.open_with.Statement.{statement}
 use Rattle.casa.proofs.open_with.Tie as tie
-
-in-limits-requires : tie.Need-in-limits-requires
-in-limits-requires c κs = search needs
-
-fresh-requires : tie.Need-fresh-requires
-fresh-requires c κs = search needs
 
 returns : tie.Need-returns
 returns c =
@@ -22,7 +16,7 @@ returns c =
 fresh-requires-2 : tie.Need-fresh-requires-2
 fresh-requires-2 c κs =
     let a = c .before .before .args in
-    limits-hold (numbers (a .frames) (a .page-bytes) (a .pages) (a .read-cost) (a .write-cost))
+    inLimits-limits (numbers (a .frames) (a .page-bytes) (a .pages) (a .read-cost) (a .write-cost))
     (sym (c .before .in-limits .ensures) ∙ not-false _ (c .if1 .left)) .b-high
 
 returns-2 : tie.Need-returns-2
@@ -31,5 +25,4 @@ returns-2 c =
     open-fine _ (fresh2 .result) (sym (c .before .before .in-limits .ensures) ∙ not-false _ (c .before .if1 .left)) (fresh2 .ensures)
 
 pub open-with-spec : {M : Type 1} → statement M
-open-with-spec =
-    tie.close (tie.spec in-limits-requires fresh-requires returns fresh-requires-2 returns-2)
+open-with-spec = tie.close (tie.spec (λ c κs. search needs) (λ c κs. search needs) returns fresh-requires-2 returns-2)

@@ -34,20 +34,8 @@ loop-less c = omega arith
 loop-again : tie.Need-loop-again Inv-loop μ-loop
 loop-again c = omega (arith, c .shared-slice-known .given (c .before .before .loop .i))
 
-returns : tie.Need-returns Inv-loop μ-loop
-returns c = search needs
-
 pub sum-spec : {M : Type 1} → statement M
 sum-spec =
     tie.close
     (tie.spec
-    Inv-loop
-    μ-loop
-    loop-holds
-    shared-slice-read-n
-    cast-n
-    add-n
-    add-i
-    loop-less
-    loop-again
-    returns)
+    Inv-loop μ-loop loop-holds shared-slice-read-n cast-n add-n add-i loop-less loop-again (λ c. search needs))

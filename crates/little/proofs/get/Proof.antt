@@ -3,8 +3,8 @@
 use mathlib.Core.Path.{_≡_}
 use Prim.Native.Nat.{_-_, _^_, _≤_, _<_}
 use native.Mathlib.Omega.{arith}
-use borrow.Author.Needs.{needs}
 use lib.ListN.{length, drop}
+use borrow.Author.Needs.{needs}
 use Rattle.little.specs.Little.{numberOf, AllBelow}
 use Rattle.little.proofs.Turns.{get-start, get-turn, get-room}
 use Rattle.little.proofs.get.Statement.{statement}
@@ -27,12 +27,6 @@ room c =
 loop-holds : tie.Need-loop-holds Inv-loop μ-loop
 loop-holds c = (search needs, get-start (c .args .bytes .now))
 
-sub-i : tie.Need-sub-i Inv-loop μ-loop
-sub-i c = search needs
-
-shared-slice-read-b : tie.Need-shared-slice-read-b Inv-loop μ-loop
-shared-slice-read-b c = search needs
-
 cast-b : tie.Need-cast-b Inv-loop μ-loop
 cast-b c = omega (arith, c .shared-slice-known .given (c .before .before .loop .i - 1))
 
@@ -41,9 +35,6 @@ mul-r c = omega (arith, room c)
 
 add-r : tie.Need-add-r Inv-loop μ-loop
 add-r c = omega (arith, room c, c .shared-slice-known .given (c .before .before .loop .i - 1))
-
-loop-less : tie.Need-loop-less Inv-loop μ-loop
-loop-less c = search needs
 
 loop-again : tie.Need-loop-again Inv-loop μ-loop
 loop-again c =
@@ -58,16 +49,4 @@ returns c =
 
 pub get-spec : {M : Type 1} → statement M
 get-spec =
-    tie.close
-    (tie.spec
-    Inv-loop
-    μ-loop
-    loop-holds
-    sub-i
-    shared-slice-read-b
-    cast-b
-    mul-r
-    add-r
-    loop-less
-    loop-again
-    returns)
+    tie.close (tie.spec Inv-loop μ-loop loop-holds (λ c. search needs) (λ c. search needs) cast-b mul-r add-r (λ c. search needs) loop-again returns)

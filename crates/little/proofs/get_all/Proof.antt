@@ -5,8 +5,8 @@ use mathlib.Core.Path.{_≡_, refl}
 use mathlib.Core.List.{_++_}
 use Prim.Native.Nat.{_+_, _-_, _*_, _≤_}
 use native.Mathlib.Omega.{arith}
-use borrow.Author.Needs.{needs}
 use lib.ListN.{length, take, drop, length-set}
+use borrow.Author.Needs.{needs}
 use Rattle.little.specs.Little.{numbersOf}
 use Rattle.little.proofs.Turns.{part-within, getAll-start, getAll-turn, getAll-end}
 use Rattle.little.proofs.get_all.Statement.{statement}
@@ -36,29 +36,8 @@ mul-at c = omega (arith, within c)
 add-end : tie.Need-add-end Inv-loop μ-loop
 add-end c = omega (arith, within c)
 
-sub-get : tie.Need-sub-get Inv-loop μ-loop
-sub-get c = search needs
-
-part-get-start : tie.Need-part-get-start Inv-loop μ-loop
-part-get-start c = search needs
-
 part-get-end : tie.Need-part-get-end Inv-loop μ-loop
 part-get-end c = omega (arith, within c)
-
-get-requires : tie.Need-get-requires Inv-loop μ-loop
-get-requires c κs = search needs
-
-mul-xs : tie.Need-mul-xs Inv-loop μ-loop
-mul-xs c = search needs
-
-slice-write-xs : tie.Need-slice-write-xs Inv-loop μ-loop
-slice-write-xs c = search needs
-
-add-i : tie.Need-add-i Inv-loop μ-loop
-add-i c = search needs
-
-loop-less : tie.Need-loop-less Inv-loop μ-loop
-loop-less c = search needs
 
 loop-again : tie.Need-loop-again Inv-loop μ-loop
 loop-again c =
@@ -69,9 +48,6 @@ loop-again c =
       getAll-turn (s .width) (l .i) _ _ (l .xs) (s .bytes .now) _ (omega arith) (l .inv .1) (c .get .ensures) (l .inv .2),
     )
 
-same-length : tie.Need-same-length Inv-loop μ-loop
-same-length c = search needs
-
 returns : tie.Need-returns Inv-loop μ-loop
 returns c =
     let l = c .before .loop in
@@ -79,21 +55,5 @@ returns c =
 
 pub get-all-spec : {M : Type 1} → statement M
 get-all-spec =
-    tie.close
-    (tie.spec
-    Inv-loop
-    μ-loop
-    loop-holds
-    mul-at
-    add-end
-    sub-get
-    part-get-start
-    part-get-end
-    get-requires
-    mul-xs
-    slice-write-xs
-    add-i
-    loop-less
-    loop-again
-    same-length
-    returns)
+    tie.close (tie.spec Inv-loop μ-loop loop-holds mul-at add-end (λ c. search needs) (λ c. search needs) part-get-end (λ c κs. search needs)
+    (λ c. search needs) (λ c. search needs) (λ c. search needs) (λ c. search needs) loop-again (λ c. search needs) returns)

@@ -3,8 +3,8 @@
 use mathlib.Core.Path.{_≡_, refl, sym, _∙_}
 use Prim.Native.Nat.{_-_, _≤_}
 use native.Mathlib.Omega.{arith}
-use borrow.Author.Needs.{needs}
 use lib.ListN.{length, take, drop}
+use borrow.Author.Needs.{needs}
 use Rattle.order.specs.Find.{findFrom}
 use Rattle.order.specs.Places.{places}
 use Rattle.order.proofs.Search.{findFrom-hit, findFrom-miss, findFrom-end}
@@ -21,12 +21,6 @@ abbrev μ-loop : tie.MeasureT-loop
 loop-holds : tie.Need-loop-holds Inv-loop μ-loop
 loop-holds c = (search needs, search needs, refl)
 
-array-read-f : tie.Need-array-read-f Inv-loop μ-loop
-array-read-f c = search needs
-
-cast-f : tie.Need-cast-f Inv-loop μ-loop
-cast-f c = search needs
-
 mul-if1 : tie.Need-mul-if1 Inv-loop μ-loop
 mul-if1 c = omega (arith, c .before .before .pre .1 (c .before .loop .i) (search needs))
 
@@ -38,12 +32,6 @@ returns c =
     let a = c .before .before .before .args in
     let l = c .before .before .loop in
     sym (findFrom-hit (a .t3) (a .wanted) (a .t1) (a .n) (l .i) (search needs) (search needs) (c .if1 .taken)) ∙ l .inv .2
-
-add-i : tie.Need-add-i Inv-loop μ-loop
-add-i c = search needs
-
-loop-less : tie.Need-loop-less Inv-loop μ-loop
-loop-less c = search needs
 
 loop-again : tie.Need-loop-again Inv-loop μ-loop
 loop-again c =
@@ -62,17 +50,5 @@ returns-2 c =
 
 pub find-spec : {M : Type 1} → statement M
 find-spec =
-    tie.close
-    (tie.spec
-    Inv-loop
-    μ-loop
-    loop-holds
-    array-read-f
-    cast-f
-    mul-if1
-    array-read-if1
-    returns
-    add-i
-    loop-less
-    loop-again
-    returns-2)
+    tie.close (tie.spec Inv-loop μ-loop loop-holds (λ c. search needs) (λ c. search needs) mul-if1 array-read-if1 returns (λ c. search needs)
+    (λ c. search needs) loop-again returns-2)

@@ -1,40 +1,25 @@
 -- `order::put_before` meets its contract. The loop's invariant: the first `k` places hold the elements of the first list from place `i` on,
 -- and behind them the second list. The measure is how many elements are left to put. Assumes nothing.
 use mathlib.Core.Path.{_≡_}
+use mathlib.Core.List.{List, _++_}
 use Prim.Native.Nat.{ℕ, _+_, _≤_}
 use native.Mathlib.Omega.{arith}
-use borrow.Author.Needs.{needs}
-use mathlib.Core.List.{List, _++_}
 use lib.ListN.{length, drop}
-use Rattle.order.specs.Places.{places, Holds}
+use borrow.Author.Needs.{needs}
+use Rattle.order.specs.Places.{places, InPlaces}
 use Rattle.order.proofs.Places.{before-start, before-turn, before-end}
 use Rattle.order.proofs.put_before.Statement.{statement}
 use Rattle.order.proofs.put_before.Tie as tie
 
 abbrev Inv-loop : tie.InvT-loop
 Inv-loop m n front r₀ i₀ k₀ r i k =
-    (length r ≡ places) × (i ≤ m) × (k + i ≡ n + m) × ((xs ys : List ℕ) → Holds front m xs → Holds r₀ n ys → Holds r k (drop i xs ++ ys))
+    (length r ≡ places) × (i ≤ m) × (k + i ≡ n + m) × ((xs ys : List ℕ) → InPlaces front m xs → InPlaces r₀ n ys → InPlaces r k (drop i xs ++ ys))
 
 abbrev μ-loop : tie.MeasureT-loop
 μ-loop m n front r₀ i₀ k₀ r i k = i
 
 loop-holds : tie.Need-loop-holds Inv-loop μ-loop
 loop-holds c = (search needs, search needs, search needs, λ xs ys h g. before-start h ys g)
-
-sub-i : tie.Need-sub-i Inv-loop μ-loop
-sub-i c = search needs
-
-array-read-put-front : tie.Need-array-read-put-front Inv-loop μ-loop
-array-read-put-front c = search needs
-
-put-front-requires : tie.Need-put-front-requires Inv-loop μ-loop
-put-front-requires c κs = search needs
-
-add-k : tie.Need-add-k Inv-loop μ-loop
-add-k c = search needs
-
-loop-less : tie.Need-loop-less Inv-loop μ-loop
-loop-less c = search needs
 
 loop-again : tie.Need-loop-again Inv-loop μ-loop
 loop-again c =
@@ -52,15 +37,5 @@ returns c xs ys h g =
 
 pub put-before-spec : {M : Type 1} → statement M
 put-before-spec =
-    tie.close
-    (tie.spec
-    Inv-loop
-    μ-loop
-    loop-holds
-    sub-i
-    array-read-put-front
-    put-front-requires
-    add-k
-    loop-less
-    loop-again
-    returns)
+    tie.close (tie.spec Inv-loop μ-loop loop-holds (λ c. search needs) (λ c. search needs) (λ c κs. search needs) (λ c. search needs)
+    (λ c. search needs) loop-again returns)

@@ -7,8 +7,5 @@ use Rattle.pages.proofs.area.Tie as tie
 mul-result : tie.Need-mul-result
 mul-result c = product-fits 65536 65535 (search needs) (search needs) tt
 
-returns : tie.Need-returns
-returns c = search needs
-
 pub area-spec : {M : Type 1} → statement M
-area-spec = tie.close (tie.spec mul-result returns)
+area-spec = tie.close (tie.spec mul-result (λ c. search needs))

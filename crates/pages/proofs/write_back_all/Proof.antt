@@ -12,7 +12,8 @@ use Rattle.pages.proofs.write_back_all.Statement.{statement}
 use Rattle.pages.proofs.write_back_all.Tie as tie
 
 abbrev Inv-loop : tie.InvT-loop
-Inv-loop store₀ frames n size list page i₀ store i = (i ≤ n) × (length store ≡ length store₀) × (store ≡ writtenBack size page frames (drop i (take n list)) store₀)
+Inv-loop store₀ frames n size list page i₀ store i =
+    (i ≤ n) × (length store ≡ length store₀) × (store ≡ writtenBack size page frames (drop i (take n list)) store₀)
 
 abbrev μ-loop : tie.MeasureT-loop
 μ-loop store₀ frames n size list page i₀ store i = i
@@ -23,17 +24,10 @@ loop-holds c =
     (omega arith, refl, sym (writtenBack-none _ (s .n) _ _ (s .t3) _))
 
 -- the frame that a turn writes
-here : (c : tie.In-loop Inv-loop μ-loop) → let s = c .before .before .before .before .args in FrameIn (s .size) (s .t5) (length (s .frames .now)) (length (s .store .now)) (getD (s .t3) (c .before .loop .i - 1) 0)
+here : (c : tie.In-loop Inv-loop μ-loop)
+    → let s = c .before .before .before .before .args in
+    FrameIn (s .size) (s .t5) (length (s .frames .now)) (length (s .store .now)) (getD (s .t3) (c .before .loop .i - 1) 0)
 here c = c .before .before .before .before .pre .1 (c .before .loop .i - 1) (omega arith)
-
-sub-i : tie.Need-sub-i Inv-loop μ-loop
-sub-i c = search needs
-
-array-read-f : tie.Need-array-read-f Inv-loop μ-loop
-array-read-f c = search needs
-
-cast-f : tie.Need-cast-f Inv-loop μ-loop
-cast-f c = search needs
 
 mul-q : tie.Need-mul-q Inv-loop μ-loop
 mul-q c = omega (arith, here c)
@@ -41,20 +35,11 @@ mul-q c = omega (arith, here c)
 array-read-q : tie.Need-array-read-q Inv-loop μ-loop
 array-read-q c = here c .small
 
-cast-q : tie.Need-cast-q Inv-loop μ-loop
-cast-q c = search needs
-
 mul-at : tie.Need-mul-at Inv-loop μ-loop
 mul-at c = omega (arith, here c .frame)
 
 add-end : tie.Need-add-end Inv-loop μ-loop
 add-end c = omega (arith, here c .frame)
-
-sub-write-back : tie.Need-sub-write-back Inv-loop μ-loop
-sub-write-back c = search needs
-
-part-write-back-start : tie.Need-part-write-back-start Inv-loop μ-loop
-part-write-back-start c = search needs
 
 part-write-back-end : tie.Need-part-write-back-end Inv-loop μ-loop
 part-write-back-end c = omega (arith, here (c .before) .frame)
@@ -62,18 +47,14 @@ part-write-back-end c = omega (arith, here (c .before) .frame)
 write-back-requires : tie.Need-write-back-requires Inv-loop μ-loop
 write-back-requires c κs = (search needs, omega (arith, here (c .before .before) .stored))
 
-loop-less : tie.Need-loop-less Inv-loop μ-loop
-loop-less c = search needs
-
 loop-again : tie.Need-loop-again Inv-loop μ-loop
 loop-again c =
-    let l = c .before .before .before .before .before .before .loop in
-    let s = c .before .before .before .before .before .before .before .before .before .args in
+    let turn = c .before .before .before .before .before .before in
+    let l = turn .loop in
+    let s = turn .before .before .before .args in
     let k : s .n ≤ length (s .t3) = search needs in
-    (omega arith, search needs, rw (c .before .before .write-back .ensures, page-is, l .inv .2) (writtenBack-more (s .size) (s .n) (l .i) _ _ (s .t3) _ (omega arith) (omega arith) k))
-
-same-length : tie.Need-same-length Inv-loop μ-loop
-same-length c = search needs
+    let written = c .before .before .write-back .ensures in
+    (omega arith, search needs, rw (written, page-is, l .inv .2) (writtenBack-more (s .size) (s .n) (l .i) _ _ (s .t3) _ (omega arith) (omega arith) k))
 
 returns : tie.Need-returns Inv-loop μ-loop
 returns c =
@@ -83,7 +64,6 @@ returns c =
 
 pub write-back-all-spec : {M : Type 1} → statement M
 write-back-all-spec =
-    tie.close
-    (tie.spec
-    Inv-loop μ-loop loop-holds sub-i array-read-f cast-f mul-q array-read-q cast-q mul-at add-end sub-write-back part-write-back-start part-write-back-end
-    write-back-requires loop-less loop-again same-length returns)
+    tie.close (tie.spec Inv-loop μ-loop loop-holds (λ c. search needs) (λ c. search needs) (λ c. search needs) mul-q array-read-q (λ c. search needs)
+    mul-at add-end (λ c. search needs) (λ c. search needs) part-write-back-end write-back-requires (λ c. search needs) loop-again (λ c. search needs)
+    returns)

@@ -2,23 +2,11 @@
 -- passed, and the last test is the one bound that is left. Assumes nothing.
 use borrow.Author.Needs.{needs}
 use Rattle.order.specs.Places.{places}
-use Rattle.model.specs.Numbers.{mostServed}
 use Rattle.pages.proofs.Memory.{product-fits}
+use Rattle.model.specs.Numbers.{mostServed}
 use Rattle.pool.proofs.Answers.{counts-last}
 use Rattle.pool.proofs.counts_right.Statement.{statement}
 use Rattle.pool.proofs.counts_right.Tie as tie
-
-mul-if1 : tie.Need-mul-if1
-mul-if1 c = search needs
-
-returns : tie.Need-returns
-returns c = search needs
-
-returns-2 : tie.Need-returns-2
-returns-2 c = search needs
-
-returns-3 : tie.Need-returns-3
-returns-3 c = search needs
 
 mul-result : tie.Need-mul-result
 mul-result c = product-fits places mostServed (search needs) (search needs) tt
@@ -29,4 +17,5 @@ returns-4 c =
     counts-last (a .frames) (a .target) (a .served) (a .reads) (a .writes) (search needs) (search needs) (search needs)
 
 pub counts-right-spec : {M : Type 1} → statement M
-counts-right-spec = tie.close (tie.spec mul-if1 returns returns-2 returns-3 mul-result returns-4)
+counts-right-spec =
+    tie.close (tie.spec (λ c. search needs) (λ c. search needs) (λ c. search needs) (λ c. search needs) mul-result returns-4)

@@ -5,19 +5,10 @@ use Rattle.pool.proofs.Answers.{lengths-last}
 use Rattle.pool.proofs.lengths_right.Statement.{statement}
 use Rattle.pool.proofs.lengths_right.Tie as tie
 
-returns : tie.Need-returns
-returns c = search needs
-
-returns-2 : tie.Need-returns-2
-returns-2 c = search needs
-
-sub-result : tie.Need-sub-result
-sub-result c = search needs
-
 returns-3 : tie.Need-returns-3
 returns-3 c =
     let a = c .before .before .args in
     lengths-last (a .frames) (a .en) (a .cn) (a .dn) (search needs) (search needs)
 
 pub lengths-right-spec : {M : Type 1} → statement M
-lengths-right-spec = tie.close (tie.spec returns returns-2 sub-result returns-3)
+lengths-right-spec = tie.close (tie.spec (λ c. search needs) (λ c. search needs) (λ c. search needs) returns-3)

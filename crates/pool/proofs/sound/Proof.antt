@@ -2,11 +2,13 @@
 -- and `soundB` says the same. Where no frame is empty, the walk may show the last two at once. Assumes nothing.
 use mathlib.Core.Path.{_≡_}
 use native.Mathlib.Omega.{arith}
-use borrow.Author.Needs.{needs}
 use lib.ListN.{length}
+use borrow.Author.Needs.{needs}
 use Rattle.order.specs.Places.{places}
-use Rattle.pool.proofs.Parts.{frames-empty, LimitsIn, CountsIn, LengthsIn, TailsIn, FramesIn}
-use Rattle.pool.proofs.Decides.{decides-passed, decides-refuted, limits-decides}
+use Rattle.checks.proofs.Frames.{frames-empty}
+use Rattle.checks.proofs.Decides.{decides-passed, decides-refuted}
+use Rattle.pool.proofs.Parts.{LimitsIn, CountsIn, LengthsIn, TailsIn, FramesIn}
+use Rattle.pool.proofs.Decides.{limits-decides}
 use Rattle.pool.proofs.Answers.{sound-refused, sound-last, sound-full}
 use Rattle.pool.proofs.sound.Statement.{statement}
 use Rattle.pool.proofs.sound.Tie as tie
@@ -16,8 +18,12 @@ use Rattle.pool.proofs.sound.Tie as tie
 abbrev start : tie.Else3 → tie.Start
 start c = c .before .before .before .before .before .before
 
+-- the arrays are lent to the test of tails
+abbrev before-tails : tie.After-page2 → tie.Else3
+before-tails c = c .before .before .before .before .before .before .before .before
+
 abbrev behind-lengths : tie.Else4 → tie.Else3
-behind-lengths c = c .before .before .before .before .before .before .before .before .before .before
+behind-lengths c = before-tails (c .before .before)
 
 abbrev behind-tails : tie.Else7 → tie.Else4
 behind-tails c = c .before .before .before .before .before .before
@@ -50,9 +56,6 @@ frames c = let r = c .before .frames-right in decides-passed (r .result) (r .ens
 
 -- ---- the needs
 
-in-limits-requires : tie.Need-in-limits-requires
-in-limits-requires c κs = search needs
-
 returns : tie.Need-returns
 returns c =
     let r = c .before .in-limits in
@@ -66,17 +69,13 @@ returns-2 c =
     let r = c .before .counts-right in
     sound-refused _ (λ p. decides-refuted (r .result) (r .ensures) (c .if2 .taken) (p .counts))
 
-lengths-right-requires : tie.Need-lengths-right-requires
-lengths-right-requires c κs = search needs
-
 returns-3 : tie.Need-returns-3
 returns-3 c =
     let r = c .before .lengths-right in
     sound-refused _ (λ p. decides-refuted (r .result) (r .ensures) (c .if3 .taken) (p .lengths))
 
 tails-right-requires : tie.Need-tails-right-requires
-tails-right-requires c κs =
-    lengths-start (start (c .before .before .before .before .before .before .before .before))
+tails-right-requires c κs = lengths-start (start (before-tails c))
 
 returns-4 : tie.Need-returns-4
 returns-4 c =
@@ -132,19 +131,5 @@ returns-7 c =
 
 pub sound-spec : {M : Type 1} → statement M
 sound-spec =
-    tie.close
-    (tie.spec
-    in-limits-requires
-    returns
-    counts-right-requires
-    returns-2
-    lengths-right-requires
-    returns-3
-    tails-right-requires
-    returns-4
-    full-right-requires
-    returns-5
-    frames-right-requires
-    returns-6
-    pages-right-requires
-    returns-7)
+    tie.close (tie.spec (λ c κs. search needs) returns counts-right-requires returns-2 (λ c κs. search needs) returns-3 tails-right-requires returns-4
+    full-right-requires returns-5 frames-right-requires returns-6 pages-right-requires returns-7)

@@ -22,11 +22,9 @@ add-next c =
     let s = c .before .before .before .before .pre in
     omega (arith, lengths-frames _ s, s .good .limits .b-high)
 
-add-next-2 : tie.Need-add-next-2
-add-next-2 c = search needs
-
 returns : tie.Need-returns
 returns c = flush-is _ (c .before .before .before .before .before .pre) (c .before .before .put-before .ensures)
 
 pub flush-lists-spec : {M : Type 1} → statement M
-flush-lists-spec = tie.close (tie.spec put-before-requires add-t11 add-next add-next-2 returns)
+flush-lists-spec =
+    tie.close (tie.spec put-before-requires add-t11 add-next (λ c. search needs) returns)

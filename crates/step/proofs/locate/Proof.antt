@@ -2,7 +2,7 @@
 -- state has it. Assumes nothing.
 use mathlib.Core.Path.{_∙_}
 use native.Mathlib.Omega.{arith}
-use Rattle.pool.proofs.Form.{clean-holds, dirty-holds, clean-frame, dirty-frame}
+use Rattle.pool.proofs.Form.{clean-in-places, dirty-in-places, clean-frame, dirty-frame}
 use Rattle.step.proofs.Requests.{place-is}
 use Rattle.step.proofs.locate.Statement.{statement}
 use Rattle.step.proofs.locate.Tie as tie
@@ -11,7 +11,7 @@ place-of-requires : tie.Need-place-of-requires
 place-of-requires c κs =
     let s = c .before .before .before .pre in
     let b = s .good .limits .b-high in
-    ((clean-holds _ s .fits, dirty-holds _ s .fits), (λ k h. omega (arith, clean-frame _ s k h), λ k h. omega (arith, dirty-frame _ s k h)))
+    ((clean-in-places _ s .fits, dirty-in-places _ s .fits), (λ k h. omega (arith, clean-frame _ s k h), λ k h. omega (arith, dirty-frame _ s k h)))
 
 returns : tie.Need-returns
 returns c = c .place-of .ensures ∙ place-is _ (c .before .before .before .before .pre) _

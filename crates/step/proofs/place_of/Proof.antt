@@ -10,11 +10,9 @@ use lib.Seq.{length-take-le, getD-take}
 use borrow.Author.Needs.{needs}
 use borrow.Author.Tests.{not-true}
 use Rattle.order.specs.Places.{places}
-use Rattle.order.specs.Find.{findFrom}
+use Rattle.order.specs.Find.{findFrom, hasBefore}
 use Rattle.order.specs.declared.Found.the-variants.{Nowhere}
-use Rattle.order.proofs.Search.{findFrom-nowhere}
-use Rattle.pool.specs.Parts.{hasBefore}
-use Rattle.pool.proofs.Apart.{hasBefore-none}
+use Rattle.order.proofs.Search.{findFrom-nowhere, hasBefore-none}
 use Rattle.step.proofs.place_of.Statement.{statement}
 use Rattle.step.proofs.place_of.Tie as tie
 
@@ -26,9 +24,6 @@ nowhere page wanted none list n l low =
     let k : i < n = omega (arith, length-take-le n list l) in
     rw (getD-take n list i 0 k) (hasBefore-none page places wanted none (getD list i 0) (low i k)))
 
-stands-before-requires : tie.Need-stands-before-requires
-stands-before-requires c κs = search needs
-
 returns : tie.Need-returns
 returns c =
     let s = c .before .before .before in
@@ -37,24 +32,6 @@ returns c =
       none (s .args .clean) (s .args .cn) (search needs) (s .pre .1 .0),
       none (s .args .dirty) (s .args .dn) (search needs) (s .pre .1 .1),
     )
-
-find-requires : tie.Need-find-requires
-find-requires c κs = search needs
-
-enum-known-in-clean : tie.Need-enum-known-in-clean
-enum-known-in-clean c = search needs
-
-enum-told : tie.Need-enum-told
-enum-told c = search needs
-
-find-requires-2 : tie.Need-find-requires-2
-find-requires-2 c κs = search needs
-
-enum-known-in-dirty : tie.Need-enum-known-in-dirty
-enum-known-in-dirty c = search needs
-
-enum-told-2 : tie.Need-enum-told-2
-enum-told-2 c = search needs
 
 returns-2 : tie.Need-returns-2
 returns-2 c = rw (sym (c .before .before .before .find .ensures) ∙ c .before .in-clean .given .1)
@@ -73,14 +50,5 @@ pub place-of-spec : {M : Type 1} → statement M
 place-of-spec =
     tie.close
     (tie.spec
-    stands-before-requires
-    returns
-    find-requires
-    enum-known-in-clean
-    enum-told
-    find-requires-2
-    enum-known-in-dirty
-    enum-told-2
-    returns-2
-    returns-3
-    returns-4)
+    (λ c κs. search needs) returns (λ c κs. search needs) (λ c. search needs) (λ c. search needs)
+    (λ c κs. search needs) (λ c. search needs) (λ c. search needs) returns-2 returns-3 returns-4)

@@ -2,19 +2,10 @@
 use mathlib.Core.Path.{_∙_}
 use borrow.Author.Needs.{needs}
 use Rattle.model.specs.declared.Op.the-variants.{Write}
-use Rattle.step.specs.Step.{costs}
+use Rattle.model.specs.Target.{costs}
 use Rattle.step.proofs.Requests.{clean-place, dirty-place, request-is}
 use Rattle.step.proofs.write.Statement.{statement}
 use Rattle.step.proofs.write.Tie as tie
-
-cast-wanted : tie.Need-cast-wanted
-cast-wanted c = search needs
-
-locate-requires : tie.Need-locate-requires
-locate-requires c κs = search needs
-
-enum-known-place : tie.Need-enum-known-place
-enum-known-place c = search needs
 
 write-clean-requires : tie.Need-write-clean-requires
 write-clean-requires c κs =
@@ -22,21 +13,12 @@ write-clean-requires c κs =
     let s = u .before .pre .0 in
     (s, clean-place _ s _ _ (u .locate .ensures) (c .before .place .given .1))
 
-enum-known-place-2 : tie.Need-enum-known-place-2
-enum-known-place-2 c = search needs
-
 write-dirty-requires : tie.Need-write-dirty-requires
 write-dirty-requires c κs =
     let u = c .before .before .before in
     let s = u .before .pre .0 in
     let k = u .before .pre .1 in
     (s, (dirty-place _ s _ _ (u .locate .ensures) (c .before .place2 .given .1), k .1, k .2, k .3))
-
-enum-told : tie.Need-enum-told
-enum-told c = search needs
-
-write-requires : tie.Need-write-requires
-write-requires c κs = search needs
 
 returns : tie.Need-returns
 returns c =
@@ -54,10 +36,12 @@ returns-3 : tie.Need-returns-3
 returns-3 c =
     let u = c .before .before .before in
     let v = u .before in
-    c .write .ensures ∙ request-is _ (v .pre .0) _ _ (u .locate .ensures) (costs (v .args .read-cost) (v .args .write-cost)) Write (c .before .enum-told .given .1)
+    let k = costs (v .args .read-cost) (v .args .write-cost) in
+    c .write .ensures ∙ request-is _ (v .pre .0) _ _ (u .locate .ensures) k Write (c .before .enum-told .given .1)
 
 pub write-spec : {M : Type 1} → statement M
 write-spec =
     tie.close
     (tie.spec
-    cast-wanted locate-requires enum-known-place write-clean-requires enum-known-place-2 write-dirty-requires enum-told write-requires returns returns-2 returns-3)
+    (λ c. search needs) (λ c κs. search needs) (λ c. search needs) write-clean-requires (λ c. search needs)
+    write-dirty-requires (λ c. search needs) (λ c κs. search needs) returns returns-2 returns-3)

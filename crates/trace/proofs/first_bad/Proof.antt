@@ -21,36 +21,12 @@ abbrev μ-loop : tie.MeasureT-loop
 loop-holds : tie.Need-loop-holds Inv-loop μ-loop
 loop-holds c = (omega arith, rw sub-zero)
 
-mul-record-in : tie.Need-mul-record-in Inv-loop μ-loop
-mul-record-in c = search needs
-
-add-record-in : tie.Need-add-record-in Inv-loop μ-loop
-add-record-in c = search needs
-
-record-in-requires : tie.Need-record-in-requires Inv-loop μ-loop
-record-in-requires c κs = search needs
-
-enum-told : tie.Need-enum-told Inv-loop μ-loop
-enum-told c = search needs
-
-add-k : tie.Need-add-k Inv-loop μ-loop
-add-k c = search needs
-
-loop-less : tie.Need-loop-less Inv-loop μ-loop
-loop-less c = search needs
-
 loop-again : tie.Need-loop-again Inv-loop μ-loop
 loop-again c =
     let a = c .before .before .before .before .before .before .args in
     let l = c .before .before .before .before .loop in
     let e = sym (c .before .before .record-in .ensures) ∙ c .enum-told .given .1 in
     (omega arith, l .inv .1 ∙ firstBad-next (now (a .bytes)) (a .pages) (a .start) (l .k) (a .records) _ (omega arith) e)
-
-enum-told-2 : tie.Need-enum-told-2 Inv-loop μ-loop
-enum-told-2 c = search needs
-
-add-result : tie.Need-add-result Inv-loop μ-loop
-add-result c = search needs
 
 returns : tie.Need-returns Inv-loop μ-loop
 returns c =
@@ -69,17 +45,5 @@ pub first-bad-spec : {M : Type 1} → statement M
 first-bad-spec =
     tie.close
     (tie.spec
-    Inv-loop
-    μ-loop
-    loop-holds
-    mul-record-in
-    add-record-in
-    record-in-requires
-    enum-told
-    add-k
-    loop-less
-    loop-again
-    enum-told-2
-    add-result
-    returns
-    returns-2)
+    Inv-loop μ-loop loop-holds (λ c. search needs) (λ c. search needs) (λ c κs. search needs) (λ c. search needs)
+    (λ c. search needs) (λ c. search needs) loop-again (λ c. search needs) (λ c. search needs) returns returns-2)

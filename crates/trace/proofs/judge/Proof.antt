@@ -6,15 +6,9 @@ use Rattle.trace.specs.Format.{judged}
 use Rattle.trace.proofs.judge.Statement.{statement}
 use Rattle.trace.proofs.judge.Tie as tie
 
-points-back-requires : tie.Need-points-back-requires
-points-back-requires c κs = search needs
-
 returns : tie.Need-returns
 unfolding judged
 returns c = rw (sym (c .before .points-back .ensures) ∙ not-true _ (c .if1 .taken))
-
-numbers-allowed-requires : tie.Need-numbers-allowed-requires
-numbers-allowed-requires c κs = search needs
 
 returns-2 : tie.Need-returns-2
 unfolding judged
@@ -34,4 +28,4 @@ returns-3 c =
 
 pub judge-spec : {M : Type 1} → statement M
 judge-spec =
-    tie.close (tie.spec points-back-requires returns numbers-allowed-requires returns-2 returns-3)
+    tie.close (tie.spec (λ c κs. search needs) returns (λ c κs. search needs) returns-2 returns-3)

@@ -9,16 +9,10 @@ use Rattle.model.proofs.Limits.{meant-usual, meant-given}
 use Rattle.trace.proofs.numbers_allowed.Statement.{statement}
 use Rattle.trace.proofs.numbers_allowed.Tie as tie
 
-in-limits-requires : tie.Need-in-limits-requires
-in-limits-requires c κs = search needs
-
 returns : tie.Need-returns
 returns c =
     let n = numbersIn (c .before .before .before .before .before .args .trailer) in
     rw (meant-usual n (c .before .before .before .if1 .taken) (c .before .if2 .taken)) (c .in-limits .ensures)
-
-in-limits-requires-2 : tie.Need-in-limits-requires-2
-in-limits-requires-2 c κs = search needs
 
 returns-2 : tie.Need-returns-2
 returns-2 c =
@@ -28,4 +22,4 @@ returns-2 c =
 
 pub numbers-allowed-spec : {M : Type 1} → statement M
 numbers-allowed-spec =
-    tie.close (tie.spec in-limits-requires returns in-limits-requires-2 returns-2)
+    tie.close (tie.spec (λ c κs. search needs) returns (λ c κs. search needs) returns-2)

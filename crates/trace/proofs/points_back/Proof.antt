@@ -5,12 +5,6 @@ use Rattle.trace.specs.Format.{pointsBack}
 use Rattle.trace.proofs.points_back.Statement.{statement}
 use Rattle.trace.proofs.points_back.Tie as tie
 
-mul-if1 : tie.Need-mul-if1
-mul-if1 c = search needs
-
-add-if1 : tie.Need-add-if1
-add-if1 c = search needs
-
 returns : tie.Need-returns
 unfolding pointsBack
 returns c = rw (ne-eqb _ _ (c .if1 .taken))
@@ -20,4 +14,4 @@ unfolding pointsBack
 returns-2 c = rw (eq-eqb _ _ (c .if1 .left))
 
 pub points-back-spec : {M : Type 1} → statement M
-points-back-spec = tie.close (tie.spec mul-if1 add-if1 returns returns-2)
+points-back-spec = tie.close (tie.spec (λ c. search needs) (λ c. search needs) returns returns-2)

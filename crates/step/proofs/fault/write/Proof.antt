@@ -1,25 +1,21 @@
 -- `step::fault::write` meets its contract: the frame that was taken and filled goes to the front of D, where there is room. Assumes nothing.
-use native.Mathlib.Omega.{arith}
 use borrow.Author.Needs.{needs}
 use Rattle.pool.specs.Pool.{stateOf}
-use Rattle.step.proofs.Faults.{fault-write}
+use Rattle.step.proofs.Faults.{taken-clean, taken-dirty, taken-front, fault-is}
 use Rattle.step.proofs.fault.write.Statement.{statement}
 use Rattle.step.proofs.fault.write.Tie as tie
 
-take-frame-requires : tie.Need-take-frame-requires
-take-frame-requires c κs = search needs
-
-front-dirty-requires : tie.Need-front-dirty-requires
-front-dirty-requires c κs = c .before .take-frame .ensures .3
-
-cast-t8 : tie.Need-cast-t8
-cast-t8 c = omega (arith, c .before .before .take-frame .ensures .1)
-
 returns : tie.Need-returns
 returns c =
-    let taken = c .before .before .take-frame in
-    let a = c .before .before .before .args in
-    fault-write (stateOf (a .pool)) (a .page) (taken .result) (taken .ensures .0) (c .front-dirty .ensures)
+    let taken = c .before .before .before .take-frame in
+    let args = c .before .before .before .before .args in
+    let s = stateOf (args .pool) in
+    let q = args .page in
+    let e = taken .ensures .0 in
+    let clean = taken-clean s q _ e (taken .ensures .2) in
+    let dirty = taken-dirty s q _ e (taken .ensures .3) in
+    fault-is s q _ e clean (taken-front s q _ e dirty (taken .ensures .3) (c .put-front .ensures))
 
 pub write-spec : {M : Type 1} → statement M
-write-spec = tie.close (tie.spec take-frame-requires front-dirty-requires cast-t8 returns)
+write-spec =
+    tie.close (tie.spec (λ c κs. search needs) (λ c κs. search needs) (λ c. search needs) (λ c. search needs) returns)

@@ -1,34 +1,31 @@
--- `step::hit::read_clean` meets its contract. C is held by its places with the frame at the front, the target is the one that `raise` gives for the lengths, and
--- all else is as it was. Assumes nothing.
+-- `step::hit::read_clean` meets its contract. C is held by its places with the frame at the front, and the target is the one that `raise` gives for the
+-- lengths. Assumes nothing.
 use native.Mathlib.Omega.{arith}
 use borrow.Author.Needs.{needs}
-use Rattle.pool.proofs.Form.{clean-holds, dirty-holds}
-use Rattle.step.proofs.Hits.{read-clean-is}
+use Rattle.order.proofs.Places.{in-places-getD, front-in-places}
+use Rattle.model.specs.Target.{costs, up}
+use Rattle.pool.proofs.Form.{clean-in-places, dirty-in-places}
+use Rattle.step.proofs.Hits.{target-is}
 use Rattle.step.proofs.hit.read_clean.Statement.{statement}
 use Rattle.step.proofs.hit.read_clean.Tie as tie
 
-array-read-frame : tie.Need-array-read-frame
-array-read-frame c = omega (arith, clean-holds _ (c .before .pre .0) .fits)
-
-move-to-front-requires : tie.Need-move-to-front-requires
-move-to-front-requires c κs = omega (arith, clean-holds _ (c .before .pre .0) .fits)
-
 raise-requires : tie.Need-raise-requires
 raise-requires c κs =
-    let s = c .before .before .pre .0 in
-    let k = c .before .before .pre .1 in
-    (s .good .limits .b-high, s .good .target-high, k .1, k .2, k .3, omega (arith, k .0), clean-holds _ s .fits, dirty-holds _ s .fits)
-
-add-next : tie.Need-add-next
-add-next c = search needs
-
-cast-t17 : tie.Need-cast-t17
-cast-t17 c = search needs
+    let s = c .before .before .before .pre .0 in
+    let k = c .before .before .before .pre .1 in
+    (s .good .limits .b-high, s .good .target-high, k .1, k .2, k .3, omega (arith, k .0), clean-in-places _ s .fits, dirty-in-places _ s .fits)
 
 returns : tie.Need-returns
 returns c =
-    let u = c .before .before in
-    read-clean-is _ (u .before .before .pre .0) _ (u .before .before .pre .1 .0) _ (u .move-to-front .ensures) (c .before .raise .ensures)
+    let v = c .before .before .before .before .before in
+    let u = v .pre in
+    let h = clean-in-places _ (u .0) in
+    c .hit .ensures _ _ _ _ (rw (← (c .before .before .move-to-front .ensures)) at (front-in-places h _ (u .1 .0))) (dirty-in-places _ (u .0))
+    (target-is _ (u .0) (up (costs (v .args .read-cost) (v .args .write-cost))) (c .before .raise .ensures)) (in-places-getD h _ (u .1 .0))
 
 pub read-clean-spec : {M : Type 1} → statement M
-read-clean-spec = tie.close (tie.spec array-read-frame move-to-front-requires raise-requires add-next cast-t17 returns)
+read-clean-spec =
+    tie.close
+    (tie.spec
+    (λ c. omega (arith, clean-in-places _ (c .before .before .pre .0) .fits)) (λ c κs. omega (arith, clean-in-places _ (c .before .before .pre .0) .fits))
+    raise-requires (λ c κs. search needs) returns)
