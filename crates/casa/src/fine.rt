@@ -12,6 +12,7 @@ use crate::Served;
 use model::Flushing;
 use pool::Pool;
 
+// A read: the step on the lists, the page into its frame, and its bytes out.
 pub fn read(pool: Pool, page: usize, frames: &mut [u8], store: &mut [u8], out: &mut [u8]) -> Served
     requires { ⌜ Sound pool ⌝ }
     requires { ⌜ Ready (numbersIn pool) (pool .served) (length (now frames)) (length (now store)) × (page < pool .pages) ⌝ }
@@ -29,6 +30,7 @@ pub fn read(pool: Pool, page: usize, frames: &mut [u8], store: &mut [u8], out: &
     Served { pool: next, answer }
 }
 
+// A write: the step on the lists, the page into its frame, and the stretch over it.
 pub fn write(
     pool: Pool,
     page: usize,
@@ -53,6 +55,7 @@ pub fn write(
     Served { pool: next, answer }
 }
 
+// A flush: the bytes of every dirty frame to the store, and the step on the lists.
 pub fn flush(pool: Pool, frames: &[u8], store: &mut [u8]) -> Flushed
     requires { ⌜ Sound pool ⌝ }
     requires { ⌜ Ready (numbersIn pool) (pool .served) (length (now frames)) (length (now store)) ⌝ }

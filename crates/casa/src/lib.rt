@@ -36,6 +36,7 @@ pub struct Flushed {
 
 // ---- open
 
+// With costs that are meant as they stand.
 fn open_with(
     frames: usize,
     page_bytes: usize,

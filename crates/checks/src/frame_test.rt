@@ -6,6 +6,7 @@ ghost use Rattle.order.specs.Places.{places};
 ghost use Rattle.checks.specs.Tests.{Decides, every, isSome, marked, FramesRight};
 use order::PLACES;
 
+// A frame's number as a place.
 pub fn wide(x: u8) -> usize
     ensures { λ r. ⌜ (r ≡ x) × (r < 256) ⌝ }
 {

@@ -5,7 +5,7 @@ ghost use Rattle.order.specs.Places.{places};
 ghost use Rattle.checks.specs.Tests.{every, isZero};
 use order::PLACES;
 
-// A loop that goes to the end, whatever it meets, is compiled to vector code; so are the others of this form.
+// Whether the places of a list from `from` on hold 0. A loop that goes to the end, whatever it meets, is compiled to vector code; so are the others like it.
 pub fn zeros8(list: &[u8; PLACES], from: usize) -> bool
     requires { ⌜ length (now list) ≡ places ⌝ }
     ensures { λ r. ⌜ r ≡ every isZero (drop from (now (list .entry))) ⌝ }
@@ -21,6 +21,7 @@ pub fn zeros8(list: &[u8; PLACES], from: usize) -> bool
     ok
 }
 
+// The same of the pages: the language has one function to a width.
 pub fn zeros16(list: &[u16; PLACES], from: usize) -> bool
     requires { ⌜ length (now list) ≡ places ⌝ }
     ensures { λ r. ⌜ r ≡ every isZero (drop from (now (list .entry))) ⌝ }

@@ -41,6 +41,7 @@ fn hit(
     }
 }
 
+// A read hit in C: the frame goes to the front of C, and the target up.
 pub fn read_clean(pool: Pool, read_cost: u64, write_cost: u64, at: usize) -> Step
     requires { ⌜ Sound pool ⌝ }
     requires { ⌜ (at < pool .«clean_len») × (1 ≤ «read_cost») × («read_cost» ≤ mostCost) × («write_cost» ≤ mostCost) ⌝ }
@@ -63,6 +64,7 @@ pub fn read_clean(pool: Pool, read_cost: u64, write_cost: u64, at: usize) -> Ste
     hit(pool, moved, cn, dirty, dn, target, frame)
 }
 
+// A write hit in C: the frame goes to the front of D, and the target stays.
 pub fn write_clean(pool: Pool, at: usize) -> Step
     requires { ⌜ Sound pool ⌝ }
     requires { ⌜ at < pool .«clean_len» ⌝ }
@@ -93,6 +95,7 @@ pub fn in_dirty(pool: Pool, at: usize, target: u64) -> Step
     hit(pool, clean, cn, moved, dn, target, frame)
 }
 
+// A write hit in D: the frame goes to the front of D, and the target down.
 pub fn write_dirty(pool: Pool, read_cost: u64, write_cost: u64, at: usize) -> Step
     requires { ⌜ Sound pool ⌝ }
     requires { ⌜ (at < pool .«dirty_len») × (1 ≤ «read_cost») × («read_cost» ≤ mostCost) × («write_cost» ≤ mostCost) ⌝ }

@@ -53,6 +53,7 @@ pub fn victim_of(answer: Answer) -> Victim {
     }
 }
 
+// What a total answers, within a line.
 pub fn total(answer: Costing) {
     match answer {
         Costing::Refused(why) => also_refused(why),

@@ -13,6 +13,7 @@ use checks::frame_test;
 use checks::page_test;
 use order::PLACES;
 
+// A page's number as a place.
 fn wide16(x: u16) -> usize
     ensures { λ r. ⌜ r ≡ x ⌝ }
 {
