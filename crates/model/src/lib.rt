@@ -1,7 +1,7 @@
 // The scope's words, its limits, and the numbers of its refusals for programs that print them. No other function stands here: specs/ says what is right, and
 // proofs/ shows what follows from it.
 ghost use mathlib.Core.Path.{_≡_};
-ghost use Rattle.model.specs.Numbers.{inLimits};
+ghost use Rattle.model.specs.Numbers.{numbers, inLimits};
 ghost use Rattle.model.specs.Words.{numberOf};
 
 // The usual drive, which opening with both costs 0 means.
@@ -110,7 +110,7 @@ pub fn in_limits(
     read_cost: u64,
     write_cost: u64,
 ) -> bool
-    ensures { λ r. ⌜ r ≡ inLimits (record { b = frames; P = «page_bytes»; N = pages; r = «read_cost»; w = «write_cost» }) ⌝ }
+    ensures { λ r. ⌜ r ≡ inLimits (numbers frames «page_bytes» pages «read_cost» «write_cost») ⌝ }
 {
     if frames < 1 {
         return false;
