@@ -52,7 +52,7 @@ def edges():
     yield 'one-frame', trace([('W', 1, 0), ('R', 0, 1)], b=1)
     yield 'flush-of-nothing', trace([('F', 0, 0), ('R', 0, 0), ('F', 0, 0)])
     yield 'no-records', trace([])
-    yield 'usual-drive', trace(LISTING, r=0, w=0)
+    yield 'usual-drive', trace(LISTING, r=0, w=0)  # named when 1 and 4 was what open made of it, too
     for n in (0, 1, 19):
         yield 'short-%d' % n, bytes(n)
     yield 'zeros-20', bytes(20)

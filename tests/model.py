@@ -1,5 +1,5 @@
 #!/usr/bin/env python3
-"""A plain model of the page buffer and of trace files, written from the scope alone.
+"""A plain model of the page buffer and of trace files, written from the scope and its requests alone.
 
 It shares nothing with the proved code: lists are Python lists, pages are looked for one after the other, and the
 expected outputs under tests/ come from here, never from the program that is tested. Standard library only.
@@ -12,6 +12,8 @@ import sys
 
 UNIT = 65536
 MOST_SERVED = 1000000000
+USUAL_DRIVE = 1, 10     # what both costs 0 mean to open
+RECORDED_DRIVE = 1, 4   # what they mean to the trace reader: stored files were recorded on it
 
 
 class Refused(Exception):
@@ -22,10 +24,13 @@ class Refused(Exception):
         self.number, self.record = number, record
 
 
+def costs(r, w, drive):
+    """Both costs 0 mean a drive's; others mean themselves."""
+    return drive if r == 0 and w == 0 else (r, w)
+
+
 def allowed(b, P, N, r, w):
-    """Refusal 1's limits; both costs 0 mean the usual drive."""
-    if r == 0 and w == 0:
-        r, w = 1, 4
+    """Refusal 1's limits."""
     return 1 <= b <= 64 and 16 <= P <= 4096 and 1 <= N <= 65536 and 1 <= r <= 1000 and 1 <= w <= 1000
 
 
@@ -33,10 +38,9 @@ class Pool:
     """The pool by the scope's words: E, C, D hold frames, the most recently used first."""
 
     def __init__(self, b, P, N, r, w):
+        r, w = costs(r, w, USUAL_DRIVE)
         if not allowed(b, P, N, r, w):
             raise Refused(1)
-        if r == 0 and w == 0:
-            r, w = 1, 4
         self.b, self.P, self.N, self.r, self.w = b, P, N, r, w
         self.E, self.C, self.D = list(range(b - 1, -1, -1)), [], []
         self.page = [0] * b
@@ -50,9 +54,7 @@ class Pool:
     # ---- soundness
 
     def sound(self):
-        if not (1 <= self.b <= 64 and 16 <= self.P <= 4096 and 1 <= self.N <= 65536):
-            return False
-        if not (1 <= self.r <= 1000 and 1 <= self.w <= 1000):
+        if not allowed(self.b, self.P, self.N, self.r, self.w):
             return False
         if sorted(self.E + self.C + self.D) != list(range(self.b)):
             return False
@@ -162,14 +164,14 @@ class Pool:
 # ---- trace files
 
 def trailer(data):
-    """Refusals 7 and 1; else the seven numbers."""
+    """Refusals 7 and 1; else the seven numbers, as the file has them."""
     if len(data) < 20:
         raise Refused(7)
     t = struct.unpack('<IIHHIHH', data[-20:])
     distance, records, b, P, N, r, w = t
     if distance != 20 + 4 * records or distance > len(data):
         raise Refused(7)
-    if not allowed(b, P, N, r, w):
+    if not allowed(b, P, N, *costs(r, w, RECORDED_DRIVE)):
         raise Refused(1)
     return t
 
@@ -204,7 +206,7 @@ def listing(data):
             raise Refused(10)
     except Refused as no:
         return 'refused %d%s\n' % (no.number, '' if no.record is None else ' at %d' % no.record)
-    pool, frames, store, out = Pool(b, P, N, r, w), bytearray(b * P), bytearray(N * P), bytearray(P)
+    pool, frames, store, out = Pool(b, P, N, *costs(r, w, RECORDED_DRIVE)), bytearray(b * P), bytearray(N * P), bytearray(P)
     lines = ['request op page result victim writes clean dirty target byte']
     for k, (letter, value, page) in enumerate(rs, 1):
         if letter == 'F':

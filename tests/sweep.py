@@ -36,7 +36,7 @@ class Raw:
 
     def sound(self):
         """By 'What the pool holds'."""
-        if 0 in (self.r, self.w) or not allowed(self.b, self.P, self.N, self.r, self.w):
+        if not allowed(self.b, self.P, self.N, self.r, self.w):
             return False
         lengths = [self.empty_len, self.clean_len, self.dirty_len]
         if max(lengths) > 64:

@@ -26,7 +26,7 @@ def judge_numbers(numbers):
         if name in 'rw' and numbers[3:] == [0, 0]:
             continue
         if not low <= value <= high:
-            raise Refused(1, '%s is %d, and has to be %d to %d%s' % (name, value, low, high, ' (both costs 0 mean the usual drive)' if name in 'rw' else ''))
+            raise Refused(1, '%s is %d, and has to be %d to %d%s' % (name, value, low, high, ' (or both costs are 0, which mean 1 and 4)' if name in 'rw' else ''))
 
 
 def judge_record(where, letter, value, page, pages):

@@ -42,7 +42,7 @@ pub struct Costs {
     pub write: u64,
 }
 
-// Costs far apart, equal, the usual drive, and either one the larger.
+// Costs far apart, equal, both 0 for the usual drive, and either one the larger.
 pub fn costs_of(frames: usize) -> Costs {
     match frames % 8 {
         0 => Costs {

@@ -5,7 +5,7 @@ use mathlib.Core.Logic.{_≢_}
 use Prim.Native.Nat.{ℕ}
 use lib.Dec.{eqb}
 use borrow.Author.Tests.{eq-eqb, ne-eqb}
-use Rattle.model.specs.Numbers.{Numbers, inLimits, meant, numbers}
+use Rattle.model.specs.Numbers.{Numbers, inLimits, onDrive, usualRead, usualWrite, numbers}
 use Rattle.model.specs.State.{opened}
 use Rattle.model.specs.Refusals.{openVerdict}
 use Rattle.model.specs.declared.Refusal.the-variants.{OutOfLimits}
@@ -24,13 +24,13 @@ unfolding openBy
 open-fine n p e z = rw (e, z)
 
 -- both costs 0 mean the usual drive, and others themselves
-pub open-usual : (b P N r w : ℕ) → r ≡ 0 → w ≡ 0 → openBy (numbers b P N 1 4) ≡ openAfter (numbers b P N r w)
-unfolding openBy openAfter openVerdict meant
+pub open-usual : (b P N r w : ℕ) → r ≡ 0 → w ≡ 0 → openBy (numbers b P N usualRead usualWrite) ≡ openAfter (numbers b P N r w)
+unfolding openBy openAfter openVerdict onDrive
 open-usual b P N r w e d = rw (e, d)
 
 module _ (b P N r w : ℕ) where
   meant-so : (eqb r 0 && eqb w 0) ≡ false → openBy (numbers b P N r w) ≡ openAfter (numbers b P N r w)
-  unfolding openBy openAfter openVerdict meant
+  unfolding openBy openAfter openVerdict onDrive
   meant-so e = rw e
 
   pub open-read-cost : r ≢ 0 → openBy (numbers b P N r w) ≡ openAfter (numbers b P N r w)

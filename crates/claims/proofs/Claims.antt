@@ -11,7 +11,8 @@ use Prim.Native.Nat.{ℕ, _<_}
 use lib.ListN.{length}
 use Rattle.pages.specs.Pages.{pageOf}
 use Rattle.model.specs.Numbers.{Numbers, Limits, meant}
-use Rattle.model.specs.Words.{refusalSays}
+use Rattle.model.specs.Words.{opened as saidOpened, refusalSays}
+use Rattle.model.specs.State.{opened as openedState}
 use Rattle.model.specs.Target.{Adjustment, Exact, exactZero, exactAll, WithinUnits, Bounded, FurtherThan, aboveExact}
 use Rattle.model.specs.Refusals.{openVerdict, GivenBy}
 use Rattle.model.specs.Request.{locate}
@@ -22,11 +23,11 @@ use Rattle.model.specs.declared.Refusal.{Refusal}
 use Rattle.model.specs.declared.Refusal.the-variants.{BrokenPool, OutOfLimits}
 use Rattle.model.specs.declared.Verdict.the-variants.{Fine}
 use Rattle.model.proofs.Table as proved
-use Rattle.pool.specs.Pool.{stateOf, Sound}
+use Rattle.pool.specs.Pool.{poolOf, stateOf, Sound}
 use Rattle.pool.specs.declared.Pool.{Pool}
 use Rattle.casa.specs.Calls.{pools, OpenLeft, zeroPool, openAfter}
 use Rattle.casa.proofs.Lawful.{open-sound}
-use Rattle.trace.specs.Format.{headerOf, recordIn, startOf, recordAt, checkedOf, placeAfterMoves}
+use Rattle.trace.specs.Format.{numbersIn, recordedOn, headerOf, recordIn, startOf, recordAt, checkedOf, placeAfterMoves}
 use Rattle.trace.specs.declared.Trailer.{Trailer}
 use Rattle.trace.specs.declared.Checked.the-variants.{Refused, Fine as Read-fine}
 use Rattle.trace.specs.declared.Next.the-variants.{End}
@@ -85,6 +86,11 @@ module _ (s : List ℕ) (y : Refusal) where
 pub demand-1-record : (s : List ℕ) (t : Trailer) → headerOf s ≡ Read-fine t → (place : ℕ) → place < t .records
     → recordAt s place ≡ recordIn s (startOf s t place) (t .pages)
 demand-1-record = recordAt-in
+
+-- a trace that is not refused opens a pool with the numbers on which it was recorded: of costs 0, 0 those of the stored files, not the usual drive's
+pub trace-opens : (s : List ℕ) (t : Trailer) → headerOf s ≡ Read-fine t
+    → openAfter (recordedOn (numbersIn t)) ≡ record { pool = poolOf (openedState (recordedOn (numbersIn t))); said = saidOpened }
+trace-opens = traces.header-opens
 
 -- ---- a pool that was opened and used only through its calls, refused ones among them
 

@@ -1,5 +1,5 @@
--- Refusals of traces: what `trace::header` and `trace::check` say is the first row whose condition holds, of the trailer's rows and then of the records'.
--- Assumes nothing.
+-- Refusals of traces: what `trace::header` and `trace::check` say is the first row whose condition holds, of the trailer's rows and then of the records'. And
+-- opening for a trace that is not refused. Assumes nothing.
 use mathlib.Core.Path.{_≡_, refl, sym, ap, _∙_}
 use mathlib.Core.Bool.{Bool, true, false, not, cond as if-else}
 use mathlib.Core.List.{List, [], _∷_, _++_}
@@ -7,18 +7,23 @@ use Prim.Native.Nat.{ℕ}
 use native.Mathlib.Omega.{arith}
 use lib.Dec.{eqb, ltb}
 use lib.ListN.{length}
+use Rattle.model.specs.State.{opened}
+use Rattle.model.specs.Words.{opened as saidOpened}
 use Rattle.model.specs.Refusals.{Row, verdictBy, first, GivenBy}
 use Rattle.model.specs.declared.Refusal.{Refusal}
 use Rattle.model.specs.declared.Refusal.the-variants.{NotATrace, BadRecord}
 use Rattle.model.specs.declared.Verdict.{Verdict}
 use Rattle.model.specs.declared.Verdict.the-variants as verdict
 use Rattle.model.proofs.Exactly.{first-given, given-first}
-use Rattle.trace.specs.Format.{trailerLength, trailerRows, checkedBy, judged, headerOf, badIn, checkedAll, checkedOf}
+use Rattle.trace.specs.Format.{trailerLength, numbersIn, recordedOn, trailerRows, checkedBy, judged, headerOf, badIn, checkedAll, checkedOf}
 use Rattle.trace.specs.Words.{checkedSays}
 use Rattle.trace.specs.declared.Trailer.{Trailer}
 use Rattle.trace.specs.declared.Checked.{Checked}
 use Rattle.trace.specs.declared.Checked.the-variants.{Refused, Fine}
 use Rattle.trace.proofs.Settled.{checked-one-to-one}
+use Rattle.trace.proofs.Trailers.{header-accepts, accepted-opens}
+use Rattle.casa.specs.Calls.{openAfter}
+use Rattle.pool.specs.Pool.{poolOf}
 use Rattle.claims.specs.World.{Exactly, TraceSays, trailerIn, headerRows, badRow, checkRows}
 
 -- the header and the check, as the first of their rows
@@ -69,3 +74,10 @@ header-exactly s = exactly (headerRows s) (trailerIn s) (headerOf s) (header-fir
 
 pub check-exactly : (s : List ℕ) (y : Refusal) → Exactly (TraceSays (checkedOf s) y) (GivenBy y (checkRows s))
 check-exactly s = exactly (checkRows s) (trailerIn s) (checkedOf s) (check-first s)
+
+-- ---- opening for a trace
+
+pub header-opens : (s : List ℕ) (t : Trailer) → headerOf s ≡ Fine t
+    → openAfter (recordedOn (numbersIn t)) ≡ record { pool = poolOf (opened (recordedOn (numbersIn t))); said = saidOpened }
+unfolding openAfter
+header-opens s t e = let o = accepted-opens (header-accepts s t e) in rw (o .0, o .1)

@@ -13,6 +13,7 @@ use tell::number;
 use tell::word;
 use trace::Checked;
 use trace::Next;
+use trace::Trailer;
 
 const FAR: usize = 18446744073709551615;
 
@@ -386,12 +387,24 @@ fn sets() {
 
 // ---- traces
 
+// The costs as the file has them, and those on which the trace was recorded.
+fn tell_costs(trailer: Trailer) {
+    word(b" costs");
+    number(trailer.read_cost as u64);
+    number(trailer.write_cost as u64);
+    let drive = trace::recorded_on(trailer);
+    word(b" recorded on");
+    number(drive.read_cost);
+    number(drive.write_cost);
+}
+
 fn tell_checked(bytes: &[u8]) {
     match trace::check(bytes) {
         Checked::Refused(why) => also_refused(why),
         Checked::Fine(trailer) => {
             word(b" read with records");
             number(trailer.records as u64);
+            tell_costs(trailer);
         }
     }
 }
@@ -413,12 +426,13 @@ fn tell_trace(bytes: &[u8]) {
     end();
 }
 
-// 19 bytes; 20 bytes with distance 20, no records and numbers that are allowed; the same with b = 65; one record, R 7, and one that is not, R 8; R 7 and then
-// R 8, of which a reader yields neither.
+// 19 bytes; 20 bytes with distance 20, no records and numbers that are allowed; the same with costs 0, 0, and with b = 65; one record, R 7, and one that is
+// not, R 8; R 7 and then R 8, of which a reader yields neither.
 fn traces() {
     let short = [0u8; 19];
     tell_trace(&short);
     tell_trace(b"\x14\0\0\0\0\0\0\0\x02\0\x10\0\x08\0\0\0\x01\0\x03\0");
+    tell_trace(b"\x14\0\0\0\0\0\0\0\x02\0\x10\0\x08\0\0\0\0\0\0\0");
     tell_trace(b"\x14\0\0\0\0\0\0\0\x41\0\x10\0\x08\0\0\0\x01\0\x03\0");
     tell_trace(b"R\0\x07\0\x18\0\0\0\x01\0\0\0\x02\0\x10\0\x08\0\0\0\x01\0\x03\0");
     tell_trace(b"R\0\x08\0\x18\0\0\0\x01\0\0\0\x02\0\x10\0\x08\0\0\0\x01\0\x03\0");

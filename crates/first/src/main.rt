@@ -1,5 +1,6 @@
-// A first program: opens a pool, writes a mark into a page, reads the page back, flushes, and prints what came out.
+// A first program: opens a pool, writes a mark into a page, reads the page back, flushes, and prints what came out and what it cost.
 use model::Answer;
+use model::Costing;
 use model::Flushing;
 
 fn line(what: &[u8], n: u64) {
@@ -27,8 +28,15 @@ fn tell_flush(answer: Flushing) {
     }
 }
 
+fn tell_total(answer: Costing) {
+    match answer {
+        Costing::Total(cost) => line(b"total cost: ", cost),
+        Costing::Refused(_) => line(b"refused; total cost: ", 0),
+    }
+}
+
 fn main() {
-    // 2 frames and 8 pages of 16 bytes; both costs 0 mean the usual drive.
+    // 2 frames and 8 pages of 16 bytes; both costs 0 mean the usual drive, on which a read costs 1 and a write 10.
     let mut frames = [0u8; 32];
     let mut store = [0u8; 128];
     let mut out = [0u8; 16];
@@ -49,4 +57,7 @@ fn main() {
     let done = flushed.answer;
     tell_flush(done);
     tell_byte(b"in the store, after it: ", store[112]);
+
+    let saved = flushed.pool;
+    tell_total(casa::total(saved));
 }

@@ -1,11 +1,11 @@
--- The test on the numbers says what the inequalities say; and which numbers are meant by those that are given. Assumes nothing.
+-- The test on the numbers says what the inequalities say; and what numbers are on a drive, which they may name or not. Assumes nothing.
 use mathlib.Core.Path.{_≡_, refl, sym, _∙_}
 use mathlib.Core.Bool.{Bool, true, false, _&&_, false≢true, cond as if-else}
 use Prim.Native.Nat.{ℕ, _≤_}
 use native.Mathlib.Omega.{arith}
 use lib.Dec.{eqb, leb}
 use borrow.Author.Tests.{leb-true, le-leb, eqb-true, eq-eqb}
-use Rattle.model.specs.Numbers.{Numbers, between, inLimits, Limits, withUsualDrive, meant}
+use Rattle.model.specs.Numbers.{Numbers, between, inLimits, Limits, withCosts, onDrive}
 use Rattle.model.proofs.Refusals.{and-both}
 
 both-and : {s t : Bool} → s ≡ true → t ≡ true → (s && t) ≡ true
@@ -66,30 +66,44 @@ limits-last n rest = go (leb (n .w) 1000) refl
     go true e = sym (limits-inLimits n (rest (leb-true (n .w) 1000 e)))
     go false e = limits-refused n (λ l. false≢true (sym e ∙ le-leb (n .w) 1000 (l .w-high)))
 
--- ---- the numbers that are meant
+-- ---- numbers that name no drive, and those that do
 
-pub meant-usual : (n : Numbers) → n .r ≡ 0 → n .w ≡ 0 → meant n ≡ withUsualDrive n
-unfolding meant
-meant-usual n e f = rw (eq-eqb _ _ e, eq-eqb _ _ f)
+module _ (read write : ℕ) (n : Numbers) where
+  pub onDrive-none : n .r ≡ 0 → n .w ≡ 0 → onDrive read write n ≡ withCosts read write n
+  unfolding onDrive
+  onDrive-none e f = rw (eq-eqb _ _ e, eq-eqb _ _ f)
 
-pub meant-given : (n : Numbers) → (n .r ≡ 0 → n .w ≡ 0 → ⊥) → meant n ≡ n
-unfolding meant
-meant-given n h = go (eqb (n .r) 0 && eqb (n .w) 0) refl
-  where
-    go : (t : Bool) → (eqb (n .r) 0 && eqb (n .w) 0) ≡ t → if-else t (withUsualDrive n) n ≡ n
-    go true p = let z = and-both _ _ p in absurd (h (eqb-true (n .r) 0 (z .0)) (eqb-true (n .w) 0 (z .1)))
-    go false p = refl
+  pub onDrive-named : (n .r ≡ 0 → n .w ≡ 0 → ⊥) → onDrive read write n ≡ n
+  unfolding onDrive
+  onDrive-named h = go (eqb (n .r) 0 && eqb (n .w) 0) refl
+    where
+      go : (t : Bool) → (eqb (n .r) 0 && eqb (n .w) 0) ≡ t → if-else t (withCosts read write n) n ≡ n
+      go true p = let z = and-both _ _ p in absurd (h (eqb-true (n .r) 0 (z .0)) (eqb-true (n .w) 0 (z .1)))
+      go false p = refl
 
--- where the numbers that are meant are in their limits, those that are given are not above them
-pub meant-limits : (n : Numbers) → inLimits (meant n) ≡ true
-    → (n .b ≤ 64) × (n .P ≤ 4096) × (n .N ≤ 65536) × (n .r ≤ 1000) × (n .w ≤ 1000)
-unfolding meant
-meant-limits n e = go (eqb (n .r) 0 && eqb (n .w) 0) refl e
-  where
-    go : (t : Bool) → (eqb (n .r) 0 && eqb (n .w) 0) ≡ t → inLimits (if-else t (withUsualDrive n) n) ≡ true
-        → (n .b ≤ 64) × (n .P ≤ 4096) × (n .N ≤ 65536) × (n .r ≤ 1000) × (n .w ≤ 1000)
-    go true p h =
-        let l = inLimits-limits (withUsualDrive n) h in
-        let z = and-both _ _ p in
-        (l .b-high, l .P-high, l .N-high, omega (arith, eqb-true (n .r) 0 (z .0)), omega (arith, eqb-true (n .w) 0 (z .1)))
-    go false p h = let l = inLimits-limits n h in (l .b-high, l .P-high, l .N-high, l .r-high, l .w-high)
+  -- only the costs are the drive's
+  pub onDrive-costs : withCosts (onDrive read write n .r) (onDrive read write n .w) n ≡ onDrive read write n
+  unfolding onDrive
+  onDrive-costs = go (eqb (n .r) 0 && eqb (n .w) 0)
+    where
+      go : (t : Bool) → let m = if-else t (withCosts read write n) n in withCosts (m .r) (m .w) n ≡ m
+      go true = refl
+      go false = refl
+
+  -- where the numbers are in their limits on that drive, they are not above them as they are given
+  pub onDrive-limits : inLimits (onDrive read write n) ≡ true
+      → (n .b ≤ 64) × (n .P ≤ 4096) × (n .N ≤ 65536) × (n .r ≤ 1000) × (n .w ≤ 1000)
+  unfolding onDrive
+  onDrive-limits e = go (eqb (n .r) 0 && eqb (n .w) 0) refl e
+    where
+      go : (t : Bool) → (eqb (n .r) 0 && eqb (n .w) 0) ≡ t → inLimits (if-else t (withCosts read write n) n) ≡ true
+          → (n .b ≤ 64) × (n .P ≤ 4096) × (n .N ≤ 65536) × (n .r ≤ 1000) × (n .w ≤ 1000)
+      go true p h =
+          let l = inLimits-limits (withCosts read write n) h in
+          let z = and-both _ _ p in
+          (l .b-high, l .P-high, l .N-high, omega (arith, eqb-true (n .r) 0 (z .0)), omega (arith, eqb-true (n .w) 0 (z .1)))
+      go false p h = let l = inLimits-limits n h in (l .b-high, l .P-high, l .N-high, l .r-high, l .w-high)
+
+  -- numbers in their limits name their drive
+  pub onDrive-within : Limits n → onDrive read write n ≡ n
+  onDrive-within l = onDrive-named (λ e f. omega (arith, l .r-low, e))

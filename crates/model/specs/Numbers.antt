@@ -45,16 +45,22 @@ pub record Limits (n : Numbers) : Type 0 where
   pub w-low : 1 ≤ n .w
   pub w-high : n .w ≤ 1000
 
--- "Opening with r = 0 and w = 0 means the usual drive, 1 and 4."
+-- ---- both costs 0 name no drive
+
+abbrev pub withCosts : ℕ → ℕ → Numbers → Numbers
+withCosts read write n = numbers (n .b) (n .P) (n .N) read write
+
+-- n, on a drive of these costs where it names none
+unfoldable pub onDrive : ℕ → ℕ → Numbers → Numbers
+onDrive read write n = if-else (eqb (n .r) 0 && eqb (n .w) 0) (withCosts read write n) n
+
+-- "Opening with both costs 0 shall mean 1 and 10.": the usual drive
 abbrev pub usualRead : ℕ
 usualRead = 1
 
 abbrev pub usualWrite : ℕ
-usualWrite = 4
-
-abbrev pub withUsualDrive : Numbers → Numbers
-withUsualDrive n = numbers (n .b) (n .P) (n .N) usualRead usualWrite
+usualWrite = 10
 
 -- the numbers that a pool opened with n holds
-unfoldable pub meant : Numbers → Numbers
-meant n = if-else (eqb (n .r) 0 && eqb (n .w) 0) (withUsualDrive n) n
+abbrev pub meant : Numbers → Numbers
+meant n = onDrive usualRead usualWrite n

@@ -7,7 +7,7 @@ ghost use Rattle.model.specs.Words.{numberOf};
 // The usual drive, which opening with both costs 0 means.
 pub const USUAL_READ: u64 = 1;
 
-pub const USUAL_WRITE: u64 = 4;
+pub const USUAL_WRITE: u64 = 10;
 
 // So many calls are served in one opening.
 pub const MOST_SERVED: u64 = 1000000000;

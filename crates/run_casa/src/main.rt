@@ -1,6 +1,10 @@
 // Reads one trace from standard input, serves each record on a store of zero bytes, and prints the listing. What is refused prints only that.
 // A branch that is marked 'Never' is not taken on a trace that `trace::check` finds fine. It prints all the same, so that a fault in the reason would show.
+ghost use mathlib.Core.Path.{_≡_};
 ghost use Prim.Native.Nat.{_≤_};
+ghost use Rattle.casa.specs.Calls.{openLeft, openAfter};
+ghost use Rattle.trace.specs.Format.{numbersIn, recordedOn};
+use casa::Opened;
 use casa::Served;
 use libc::STDIN_FILENO;
 use model::Flushing;
@@ -186,25 +190,32 @@ fn tell_end(pool: Pool) {
     tell::end();
 }
 
-// A fresh pool. Never refused: `trace::check` has tested the same numbers.
-fn opened(trailer: Trailer) -> Pool {
-    let opened = casa::open(
+// A pool with the numbers on which the trace was recorded. Never refused where `trace::check` finds the trace fine (`trace-opens`).
+fn open_recorded(trailer: Trailer) -> Opened
+    ensures { λ r. ⌜ openLeft r ≡ openAfter (recordedOn (numbersIn trailer)) ⌝ }
+{
+    let drive = trace::recorded_on(trailer);
+    casa::open(
         trailer.frames,
         trailer.page_bytes,
         trailer.pages,
-        trailer.read_cost as u64,
-        trailer.write_cost as u64,
-    );
-    let answer = opened.answer;
+        drive.read_cost,
+        drive.write_cost,
+    )
+}
+
+fn tell_opening(answer: Opening) {
     match answer {
         Opening::Refused(why) => refused(why),
         Opening::Opened => {}
     }
-    opened.pool
 }
 
 fn run(bytes: &[u8], trailer: Trailer, frames: &mut [u8], store: &mut [u8], out: &mut [u8]) {
-    let pool = opened(trailer);
+    let opened = open_recorded(trailer);
+    let answer = opened.answer;
+    let pool = opened.pool;
+    tell_opening(answer);
     word(b"request op page result victim writes clean dirty target byte\n");
     let last = serve_all(bytes, trailer.records, pool, frames, store, out);
     tell_end(last);

@@ -1,7 +1,7 @@
--- The laws of `trace`: Bytes, Trailers and Records for its own functions; Settled, Reading and Round for its callers, and Settled for its own functions
--- too; Walk and Closing for the walks over a `Reader`. Assumes nothing.
+-- The laws of `trace`: Bytes and Records for its own functions; Reading and Round for its callers, Trailers and Settled for both; Walk and Closing for the
+-- walks over a `Reader`. Assumes nothing.
 mod Bytes
-mod Trailers
+pub mod Trailers
 mod Records
 pub mod Settled
 pub mod Reading

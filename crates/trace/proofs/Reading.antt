@@ -8,7 +8,6 @@ use native.Mathlib.Omega.{arith}
 use lib.Dec.{eqb, ltb}
 use lib.ListN.{length}
 use borrow.Author.Tests.{lt-ltb, le-ltb, eqb-true, eqb-false}
-use Rattle.model.specs.Numbers.{meant}
 use Rattle.model.specs.Refusals.{first, verdictBy, outOfLimits}
 use Rattle.model.specs.declared.Refusal.{Refusal}
 use Rattle.model.specs.declared.Refusal.the-variants.{OutOfLimits, NotATrace, BadRecord}
@@ -19,7 +18,7 @@ use Rattle.trace.specs.declared.Checked.the-variants.{Refused, Fine}
 use Rattle.trace.specs.declared.Record.{Record}
 use Rattle.trace.specs.declared.Next.{Next}
 use Rattle.trace.specs.declared.Next.the-variants.{Record as Found, End}
-use Rattle.trace.specs.Format.{trailerLength, trailerAt, numbersIn, pointsBack, notATrace, checkedBy, judged, headerOf, recordIn}
+use Rattle.trace.specs.Format.{trailerLength, trailerAt, numbersIn, recordedOn, pointsBack, notATrace, checkedBy, judged, headerOf, recordIn}
 use Rattle.trace.specs.Format.{startOf, recordAt, isEnd, placeAfter, badIn, checkedAll, checkedOf, firstPlace, placeAfterMoves}
 use Rattle.trace.proofs.Trailers.{header-accepts}
 use Rattle.trace.proofs.Records.{firstBad-none, firstBad-at}
@@ -70,9 +69,9 @@ header-no-record s k e = by (ltb (length s) trailerLength) e
     limits true d = let z : _≡_ {A = ℕ} 0 1 = cc in omega arith
     limits false d = let z : _≡_ {A = ℕ} 0 1 = cc in omega arith
 
-    back : (b : Bool) → checkedBy (verdictBy b NotATrace (first (outOfLimits (meant (numbersIn t)) ∷ []))) t ≡ Refused (BadRecord k) → ⊥
+    back : (b : Bool) → checkedBy (verdictBy b NotATrace (first (outOfLimits (recordedOn (numbersIn t)) ∷ []))) t ≡ Refused (BadRecord k) → ⊥
     back true d = let z : _≡_ {A = ℕ} 0 1 = cc in omega arith
-    back false d = limits (outOfLimits (meant (numbersIn t)) .when) d
+    back false d = limits (outOfLimits (recordedOn (numbersIn t)) .when) d
 
     by : (b : Bool) → if-else b (Refused NotATrace) (judged (length s) t) ≡ Refused (BadRecord k) → ⊥
     by true d = let z : _≡_ {A = ℕ} 0 1 = cc in omega arith

@@ -11,16 +11,17 @@ use lib.Seq.{drop-at, drop-drop, drop-append-seam, getD-drop}
 use borrow.Author.Tests.{lt-ltb, le-ltb, eq-eqb, le-leb}
 use Rattle.little.specs.Little.{bytesOf}
 use Rattle.little.proofs.Laws.{numberOf-bytesOf}
-use Rattle.model.specs.Numbers.{Numbers, inLimits, meant}
+use Rattle.model.specs.Numbers.{Numbers, inLimits}
 use Rattle.trace.specs.declared.Trailer.{Trailer}
 use Rattle.trace.specs.declared.Checked.the-variants.{Fine}
 use Rattle.trace.specs.declared.Record.{Record}
 use Rattle.trace.specs.declared.Record.the-variants.{Read, Write, Flush}
 use Rattle.trace.specs.declared.Next.the-variants.{Record as Found}
-use Rattle.trace.specs.Format.{numberAt, trailerLength, trailerAt, pointsBack, judged, headerOf, recordOf, recordIn, recordAt, isEnd, checkedOf}
+use Rattle.trace.specs.Format.{numberAt, trailerLength, trailerAt, recordedOn, pointsBack, judged, headerOf}
+use Rattle.trace.specs.Format.{recordOf, recordIn, recordAt, isEnd, checkedOf}
 use Rattle.trace.specs.Encode.{recordBytes, recordsBytes, trailerOf, trailerBytes, traceBytes, RecordIn, RecordsIn}
 use Rattle.trace.proofs.Bytes.{numberAt-drop}
-use Rattle.model.proofs.Limits.{meant-limits}
+use Rattle.model.proofs.Limits.{onDrive-limits}
 use Rattle.trace.proofs.Records.{firstBad-zero}
 
 -- ---- the parts of the file
@@ -67,9 +68,9 @@ record Fits (t : Trailer) : Type 0 where
   pub read-cost : t .«read_cost» < 256 ^ 2
   pub write-cost : t .«write_cost» < 256 ^ 2
 
-trailer-fits : (k : ℕ) (n : Numbers) → inLimits (meant n) ≡ true → trailerLength + 4 * k < 2 ^ 32 → Fits (trailerOf k n)
+trailer-fits : (k : ℕ) (n : Numbers) → inLimits (recordedOn n) ≡ true → trailerLength + 4 * k < 2 ^ 32 → Fits (trailerOf k n)
 trailer-fits k n e h =
-    let l = meant-limits n e in
+    let l = onDrive-limits _ _ n e in
     record {
       distance = h;
       records = omega arith;
@@ -95,12 +96,12 @@ trailer-decoded s at t e f =
       «write_cost» = (field 18 2 ∙ numberOf-bytesOf 2 (t .«write_cost») (f .write-cost)) i;
     }
 
-judged-decoded : (m k : ℕ) (n : Numbers) → inLimits (meant n) ≡ true → trailerLength + 4 * k ≤ m
+judged-decoded : (m k : ℕ) (n : Numbers) → inLimits (recordedOn n) ≡ true → trailerLength + 4 * k ≤ m
     → judged m (trailerOf k n) ≡ Fine (trailerOf k n)
 unfolding judged pointsBack
 judged-decoded m k n e h = rw (eq-eqb (trailerLength + 4 * k) _ refl, le-leb (trailerLength + 4 * k) m h, e)
 
-pub decoded-header : (notes : List ℕ) (rs : List Record) (n : Numbers) → inLimits (meant n) ≡ true → trailerLength + 4 * length rs < 2 ^ 32
+pub decoded-header : (notes : List ℕ) (rs : List Record) (n : Numbers) → inLimits (recordedOn n) ≡ true → trailerLength + 4 * length rs < 2 ^ 32
     → headerOf (traceBytes notes rs n) ≡ Fine (trailerOf (length rs) n)
 unfolding headerOf
 decoded-header notes rs n e h =
@@ -139,16 +140,16 @@ records-decoded N (r ∷ rs) rest l h (suc k) i =
     rw (drop-record r rs rest k) (records-decoded N rs rest l (h .1) k (le-of-suc-le-suc i))
 
 -- record k of the file
-recordIn-decoded : (notes : List ℕ) (rs : List Record) (n : Numbers) → inLimits (meant n) ≡ true → RecordsIn (n .N) rs
+recordIn-decoded : (notes : List ℕ) (rs : List Record) (n : Numbers) → inLimits (recordedOn n) ≡ true → RecordsIn (n .N) rs
     → (k : ℕ) → k < length rs → recordIn (traceBytes notes rs n) (length notes + 4 * k) (n .N) ≡ Found (getD rs k Flush)
 recordIn-decoded notes rs n e r k h =
-    rw (recordIn-drop, ← drop-drop, drop-notes) (records-decoded (n .N) rs _ (meant-limits n e .2) r k h)
+    rw (recordIn-drop, ← drop-drop, drop-notes) (records-decoded (n .N) rs _ (onDrive-limits _ _ n e .2) r k h)
 
 -- where the reader starts
 start-decoded : (notes : List ℕ) (rs : List Record) (n : Numbers) → length (traceBytes notes rs n) - (trailerLength + 4 * length rs) ≡ length notes
 start-decoded notes rs n = let l = traceBytes-length notes rs n in omega arith
 
-pub decoded-record : (notes : List ℕ) (rs : List Record) (n : Numbers) → inLimits (meant n) ≡ true → RecordsIn (n .N) rs
+pub decoded-record : (notes : List ℕ) (rs : List Record) (n : Numbers) → inLimits (recordedOn n) ≡ true → RecordsIn (n .N) rs
     → trailerLength + 4 * length rs < 2 ^ 32 → (k : ℕ) → k < length rs → recordAt (traceBytes notes rs n) k ≡ Found (getD rs k Flush)
 unfolding recordAt
 decoded-record notes rs n e r h k i =
@@ -156,7 +157,7 @@ decoded-record notes rs n e r h k i =
 
 -- ---- the whole trace
 
-pub decoded : (notes : List ℕ) (rs : List Record) (n : Numbers) → inLimits (meant n) ≡ true → RecordsIn (n .N) rs
+pub decoded : (notes : List ℕ) (rs : List Record) (n : Numbers) → inLimits (recordedOn n) ≡ true → RecordsIn (n .N) rs
     → trailerLength + 4 * length rs < 2 ^ 32 → checkedOf (traceBytes notes rs n) ≡ Fine (trailerOf (length rs) n)
 unfolding checkedOf
 decoded notes rs n e r h =

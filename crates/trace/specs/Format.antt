@@ -12,13 +12,14 @@ use mathlib.Core.List.{List, [], _∷_}
 use lib.Dec.{eqb, leb, ltb}
 use lib.ListN.{length, getD, take, drop}
 use Rattle.little.specs.Little.{numberOf}
-use Rattle.model.specs.Numbers.{Numbers, meant}
+use Rattle.model.specs.Numbers.{Numbers, onDrive}
 use Rattle.model.specs.Refusals.{Row, first, outOfLimits}
 use Rattle.model.specs.Words.{namedBy}
 use Rattle.model.specs.declared.Refusal.the-variants.{NotATrace, BadRecord}
 use Rattle.model.specs.declared.Verdict.{Verdict}
 use Rattle.model.specs.declared.Verdict.the-variants as verdict
 use Rattle.trace.specs.declared.Trailer.{Trailer}
+use Rattle.trace.specs.declared.Drive.{Drive}
 use Rattle.trace.specs.declared.Checked.{Checked}
 use Rattle.trace.specs.declared.Checked.the-variants.{Refused, Fine}
 use Rattle.trace.specs.declared.Record.the-variants.{Read, Write, Flush}
@@ -50,6 +51,20 @@ trailerAt s at =
 abbrev pub numbersIn : Trailer → Numbers
 numbersIn t = record { b = t .frames; P = t .«page_bytes»; N = t .pages; r = t .«read_cost»; w = t .«write_cost» }
 
+-- "stored files were recorded on 1 and 4"
+abbrev pub recordedRead : ℕ
+recordedRead = 1
+
+abbrev pub recordedWrite : ℕ
+recordedWrite = 4
+
+-- the numbers that a trace with n in its trailer was recorded with: "must turn 0, 0 into these before opening"
+abbrev pub recordedOn : Numbers → Numbers
+recordedOn n = onDrive recordedRead recordedWrite n
+
+abbrev pub driveOf : Trailer → Drive
+driveOf t = record { «read_cost» = recordedOn (numbersIn t) .r; «write_cost» = recordedOn (numbersIn t) .w }
+
 -- "The distance is 20 + 4 × records as whole numbers", and not beyond a file of n bytes
 unfoldable pub pointsBack : ℕ → ℕ → ℕ → Bool
 pointsBack n distance records = eqb distance (trailerLength + 4 * records) && leb distance n
@@ -61,7 +76,7 @@ notATrace fine = record { when = not fine; why = NotATrace }
 
 -- of a file of n bytes with trailer t
 abbrev pub trailerRows : ℕ → Trailer → List Row
-trailerRows n t = notATrace (pointsBack n (t .distance) (t .records)) ∷ outOfLimits (meant (numbersIn t)) ∷ []
+trailerRows n t = notATrace (pointsBack n (t .distance) (t .records)) ∷ outOfLimits (recordedOn (numbersIn t)) ∷ []
 
 abbrev pub checkedBy : Verdict → Trailer → Checked
 checkedBy (verdict.Refused x) t = Refused x

@@ -6,14 +6,12 @@ ghost use mathlib.Core.Path.{_≡_};
 ghost use mathlib.Core.Bool.{cond as if-else};
 ghost use Prim.Native.Nat.{_+_, _*_, _≤_, _<_, _^_};
 ghost use lib.ListN.{length};
-ghost use Rattle.model.specs.Numbers.{inLimits, meant};
-ghost use Rattle.trace.specs.Format.{numberAt, trailerAt, numbersIn, pointsBack, judged, headerOf};
+ghost use Rattle.model.specs.Numbers.{inLimits};
+ghost use Rattle.trace.specs.Format.{numberAt, trailerAt, numbersIn, recordedOn, driveOf, pointsBack, judged, headerOf};
 ghost use Rattle.trace.specs.Format.{recordOf, recordIn, recordAt, firstBad, checkedOf, placeAfter, firstPlace};
 ghost use Rattle.trace.specs.Words.{checkedSays, nextSays};
 ghost use Rattle.trace.specs.declared.Next.the-variants.{Record as Found, End};
 use model::Refusal;
-use model::USUAL_READ;
-use model::USUAL_WRITE;
 
 // The trailer, raw as in the file.
 pub struct Trailer {
@@ -24,6 +22,12 @@ pub struct Trailer {
     pub pages: usize,
     pub read_cost: usize,
     pub write_cost: usize,
+}
+
+// What a physical read and a physical write cost.
+pub struct Drive {
+    pub read_cost: u64,
+    pub write_cost: u64,
 }
 
 // Whether a trace is refused; else its trailer.
@@ -45,6 +49,11 @@ pub enum Next {
 }
 
 const TRAILER: usize = 20;
+
+// The drive on which the stored files were recorded.
+const RECORDED_READ: u64 = 1;
+
+const RECORDED_WRITE: u64 = 4;
 
 // ---- numbers
 
@@ -86,27 +95,36 @@ fn points_back(n: usize, distance: usize, records: usize) -> bool
     distance <= n
 }
 
-// Whether a pool can be opened with the trailer's numbers.
-fn numbers_allowed(trailer: Trailer) -> bool
-    ensures { λ r. ⌜ r ≡ inLimits (meant (numbersIn trailer)) ⌝ }
+// The drive on which a trace was recorded: the trailer's costs, and where both are 0 that of the stored files. Whoever runs the trace opens with these costs,
+// since both costs 0 mean another drive to open.
+pub fn recorded_on(trailer: Trailer) -> Drive
+    ensures { λ r. ⌜ r ≡ driveOf trailer ⌝ }
 {
     if trailer.read_cost == 0 {
         if trailer.write_cost == 0 {
-            return model::in_limits(
-                trailer.frames,
-                trailer.page_bytes,
-                trailer.pages,
-                USUAL_READ,
-                USUAL_WRITE,
-            );
+            return Drive {
+                read_cost: RECORDED_READ,
+                write_cost: RECORDED_WRITE,
+            };
         }
     }
+    Drive {
+        read_cost: trailer.read_cost as u64,
+        write_cost: trailer.write_cost as u64,
+    }
+}
+
+// Whether a pool can be opened with the trailer's numbers.
+fn numbers_allowed(trailer: Trailer) -> bool
+    ensures { λ r. ⌜ r ≡ inLimits (recordedOn (numbersIn trailer)) ⌝ }
+{
+    let drive = recorded_on(trailer);
     model::in_limits(
         trailer.frames,
         trailer.page_bytes,
         trailer.pages,
-        trailer.read_cost as u64,
-        trailer.write_cost as u64,
+        drive.read_cost,
+        drive.write_cost,
     )
 }
 
