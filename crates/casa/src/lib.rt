@@ -60,7 +60,7 @@ fn open_with(
     }
 }
 
-// Opens a pool of `frames` frames over a store of `pages` pages of `page_bytes` bytes. Refused: 1.
+// Opens a pool of `frames` frames over a store of `pages` pages of `page_bytes` bytes. Both costs 0 mean the usual drive. Refused: 1.
 pub fn open(
     frames: usize,
     page_bytes: usize,

@@ -62,6 +62,7 @@ recordedWrite = 4
 abbrev pub recordedOn : Numbers → Numbers
 recordedOn n = onDrive recordedRead recordedWrite n
 
+-- their costs alone: the trailer itself stays as the file has it
 abbrev pub driveOf : Trailer → Drive
 driveOf t = record { «read_cost» = recordedOn (numbersIn t) .r; «write_cost» = recordedOn (numbersIn t) .w }
 
