@@ -1,7 +1,7 @@
 /* driver LOAD b P N n SEED SERVED: makes a load of n calls behind a warm-up and serves it, or with SERVED 0 the warm-up alone, for counting instructions. The
    difference between the two, for two values of n, is what the calls cost, without the making of the load.
    Loads: trace (80 % of reads go to hot pages), front, last, spread (read hits at the front, at the last place, uniform), clean, dirty (faults), flush
-   (64 writes and a flush each), sound (totals). Another SEED than 0 draws other pages. */
+   (64 writes and a flush each), sound (totals), and those of the recorder, in records.c. Another SEED than 0 draws other pages. */
 #include "bench.h"
 #include "random.h"
 #include <stdio.h>
@@ -26,6 +26,8 @@ int main(int argc, char **argv)
     int served = argv[7][0] != '0';
     const char *load = argv[1];
     u64 b = strtoull(argv[2], 0, 10), P = strtoull(argv[3], 0, 10), N = strtoull(argv[4], 0, 10), n = strtoull(argv[5], 0, 10), totals = 0;
+    if (record_load(load, b, P, N, n, served))
+        return 0;
     u64 room = (n + 2) * (b + 2) + 4 * b;
     ops = calloc(room, 1), pages = calloc(room, 2);
     u8 *frames = calloc(b, P), *store = calloc(N, P), *out = calloc(1, P);

@@ -183,17 +183,95 @@ def records(data):
     for k in range(t[1]):
         at = len(data) - t[0] + 4 * k
         letter, value, page = struct.unpack('<cBH', data[at:at + 4])
-        right = ((letter == b'R' and value == 0 and page < t[4]) or (letter == b'W' and page < t[4])
-                 or (letter == b'F' and value == 0 and page == 0))
-        if not right:
+        record = letter.decode('latin-1'), value, page
+        if not right(record, t[4]):
             raise Refused(8, k + 1)
-        found.append((letter.decode(), value, page))
+        found.append(record)
     return t, found
 
 
-def encode(notes, rs, b, P, N, r, w):
-    body = b''.join(struct.pack('<cBH', letter.encode(), value, page) for letter, value, page in rs)
-    return notes + body + struct.pack('<IIHHIHH', 20 + 4 * len(rs), len(rs), b, P, N, r, w)
+def right(record, N):
+    """Refusal 8's rule."""
+    letter, value, page = record
+    return letter == 'R' and value == 0 and page < N or letter == 'W' and page < N or letter == 'F' and value == 0 and page == 0
+
+
+def packed(record):
+    letter, value, page = record
+    return struct.pack('<cBH', letter.encode(), value, page)
+
+
+def closing(count, b, P, N, r, w):
+    return struct.pack('<IIHHIHH', 20 + 4 * count, count, b, P, N, r, w)
+
+
+def encode(notes, rs, *numbers):
+    return notes + b''.join(map(packed, rs)) + closing(len(rs), *numbers)
+
+
+# ---- the writer of trace files
+
+
+class Recorder:
+    """The writer of trace files: the numbers as given, where the records start, how many there are. Each call is lent the buffer."""
+
+    def __init__(self, numbers, start, count):
+        self.numbers, self.start, self.count = numbers, start, count
+
+    def examine(self, buffer, count, record=None):
+        """1 for the numbers, by the trailer's rule; 8 for a record the reader would refuse; 11 if all that and the trailer would not fit."""
+        b, P, N, r, w = self.numbers
+        if not allowed(b, P, N, *costs(r, w, RECORDED_DRIVE)):
+            raise Refused(1)
+        if record is not None and not right(record, N):
+            raise Refused(8, self.count + 1)
+        if self.start + 4 * count + 20 > len(buffer) or 20 + 4 * count >= 2 ** 32:
+            raise Refused(11)
+
+    def add(self, record, buffer):
+        self.examine(buffer, self.count + 1, record)
+        at = self.start + 4 * self.count
+        buffer[at:at + 4] = packed(record)
+        self.count += 1
+
+    def close(self, buffer):
+        """How many bytes the trace has."""
+        self.examine(buffer, self.count)
+        at = self.start + 4 * self.count
+        buffer[at:at + 20] = closing(self.count, *self.numbers)
+        return at + 20
+
+    def add_read(self, pool, page, frames, store, out, buffer):
+        """Serves and records: a refused call records nothing, and one that is served stays served if its record is refused."""
+        answer = pool.read(page, frames, store, out)
+        return answer, refusal(self.add, ('R', 0, page), buffer)
+
+    def add_write(self, pool, page, start, data, frames, store, buffer):
+        """The record's value is byte 0 of the page after the call."""
+        answer = pool.write(page, start, data, frames, store)
+        f = next(f for f in pool.C + pool.D if pool.page[f] == page)
+        return answer, refusal(self.add, ('W', frames[f * pool.P], page), buffer)
+
+    def add_flush(self, pool, frames, store, buffer):
+        answer = pool.flush(frames, store)
+        return answer, refusal(self.add, ('F', 0, 0), buffer)
+
+
+def begin(numbers, notes, buffer):
+    """A recorder of no records, behind the notes at the front of the buffer."""
+    begun = Recorder(numbers, len(notes), 0)
+    begun.examine(buffer, 0)
+    buffer[:len(notes)] = notes
+    return begun
+
+
+def refusal(call, *args):
+    """How a call is refused: its number, of 8 with the record; or nothing."""
+    try:
+        call(*args)
+    except Refused as no:
+        return (no.number,) if no.record is None else (no.number, no.record)
+    return ()
 
 
 def listing(data):

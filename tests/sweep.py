@@ -104,18 +104,23 @@ def make(pool, call, memory):
         elif call['letter'] == 'W':
             answer = pool.write(call['page'], call['start'], stretch(call['value'], call['length']), frames, store)
         elif call['letter'] == 'F':
-            answer = (FLUSH, pool.flush(frames, store))
+            answer = pool.flush(frames, store)
         else:
             return TOTAL, pool.total()
     except Refused as no:
         return no.number, 0
     memory.frames[:len(frames)], memory.store[:len(store)], memory.out[:len(out)] = frames, store, out
+    return said(answer)
+
+
+def said(answer):
+    """What the model answers, as (kind, value)."""
+    if isinstance(answer, int):
+        return FLUSH, answer
     if answer[0] == 'hit':
         return HIT, 0
-    if answer[0] == 'fault':
-        kind, page = answer[1] or (None, 0)
-        return FAULT[kind], page
-    return answer
+    kind, page = answer[1] or (None, 0)
+    return FAULT[kind], page
 
 
 class Tally:

@@ -1,9 +1,10 @@
 // Calls as data, for a program that makes them in large numbers: a call and its answer as numbers; `chance` makes calls up, `change` spoils pools,
-// and `turns` says which call a run makes next.
+// `turns` says which call a run makes next, and `digest` sums up what calls leave.
 ghost use Prim.Native.Nat.{_≤_};
 
 pub mod chance;
 pub mod change;
+pub mod digest;
 pub mod turns;
 
 use casa::Served;
@@ -69,7 +70,7 @@ fn said_answer(answer: Answer) -> Said {
     }
 }
 
-fn said_flush(answer: Flushing) -> Said {
+pub fn said_flush(answer: Flushing) -> Said {
     match answer {
         Flushing::Refused(why) => said_refusal(why),
         Flushing::Wrote(pages) => Said {
@@ -110,10 +111,10 @@ pub struct Left {
 }
 
 // The longest stretch that is written.
-const STRETCH: usize = 32;
+pub const STRETCH: usize = 32;
 
 // Bytes that differ, so that a stretch in the wrong place is seen.
-fn stretch_bytes(value: u8) -> [u8; STRETCH] {
+pub fn stretch_bytes(value: u8) -> [u8; STRETCH] {
     let mut bytes = [0u8; STRETCH];
     let mut byte = value;
     let mut i = 0;
@@ -125,7 +126,7 @@ fn stretch_bytes(value: u8) -> [u8; STRETCH] {
     bytes
 }
 
-fn left_by(served: Served) -> Left {
+pub fn left_by(served: Served) -> Left {
     let pool = served.pool;
     let answer = served.answer;
     let said = said_answer(answer);

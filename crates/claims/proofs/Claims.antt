@@ -4,11 +4,15 @@
 -- Where the hypotheses come from: `openVerdict n ≡ Fine` says that the open was accepted; `verdictOf .. ≡ Fine` that this very call is served; that no frame is
 -- empty, that the page is in no frame and that the clean list is further from the exact target are the third demand's own "whenever". Nothing is asked of a
 -- pool that was opened and used through its calls: `used-sound` gives it.
--- Assumes nothing.
+--
+-- Then the writer of trace files. `beginVerdict .. ≡ Fine` says that the trace was begun; `AllBelow 256` that a file is bytes; `roomFor .. ≡ true` that
+-- there was room for all records; the lengths that memory lent to a run of the trace is of the right sizes. Assumes nothing.
 use mathlib.Core.Path.{_≡_, ap}
-use mathlib.Core.List.{List}
-use Prim.Native.Nat.{ℕ, _<_}
-use lib.ListN.{length}
+use mathlib.Core.Bool.{true}
+use mathlib.Core.List.{List, _++_}
+use Prim.Native.Nat.{ℕ, _*_, _≤_, _<_}
+use lib.ListN.{length, getD, take}
+use Rattle.little.specs.Little.{AllBelow}
 use Rattle.pages.specs.Pages.{pageOf}
 use Rattle.model.specs.Numbers.{Numbers, Limits, meant}
 use Rattle.model.specs.Words.{opened as saidOpened, refusalSays}
@@ -16,26 +20,34 @@ use Rattle.model.specs.State.{opened as openedState}
 use Rattle.model.specs.Target.{Adjustment, Exact, exactZero, exactAll, WithinUnits, Bounded, FurtherThan, aboveExact}
 use Rattle.model.specs.Refusals.{openVerdict, GivenBy}
 use Rattle.model.specs.Request.{locate}
-use Rattle.model.specs.Run.{Call, read, outputOf, World, furtherRows, verdictOf, costsIn, left, afterAll, history, gathered}
+use Rattle.model.specs.Moves.{laid}
+use Rattle.model.specs.Run.{Call, read, write, outputOf, World, furtherRows, verdictOf, costsIn, left, afterAll, history, gathered}
 use Rattle.model.specs.Table.{worked, expected}
 use Rattle.model.specs.declared.Place.the-variants.{Absent}
 use Rattle.model.specs.declared.Refusal.{Refusal}
 use Rattle.model.specs.declared.Refusal.the-variants.{BrokenPool, OutOfLimits}
-use Rattle.model.specs.declared.Verdict.the-variants.{Fine}
+use Rattle.model.specs.declared.Verdict.the-variants.{Fine, Refused as Refused-by}
 use Rattle.model.proofs.Table as proved
-use Rattle.pool.specs.Pool.{poolOf, stateOf, Sound}
+use Rattle.pool.specs.Pool.{poolOf, numbersIn as poolNumbers, stateOf, Sound}
 use Rattle.pool.specs.declared.Pool.{Pool}
 use Rattle.casa.specs.Calls.{pools, OpenLeft, zeroPool, openAfter}
 use Rattle.casa.proofs.Lawful.{open-sound}
-use Rattle.trace.specs.Format.{numbersIn, recordedOn, headerOf, recordIn, startOf, recordAt, checkedOf, placeAfterMoves}
+use Rattle.trace.specs.Format.{numbersIn, recordedOn, headerOf, recordIn, startOf, recordAt, checkedOf, notesIn, recordsIn, placeAfterMoves}
+use Rattle.trace.specs.Encode.{traceBytes}
 use Rattle.trace.specs.declared.Trailer.{Trailer}
 use Rattle.trace.specs.declared.Checked.the-variants.{Refused, Fine as Read-fine}
+use Rattle.trace.specs.declared.Record.{Record}
 use Rattle.trace.specs.declared.Next.the-variants.{End}
 use Rattle.trace.proofs.Reading.{refused-none, recordAt-in, refused-yields-none}
-use Rattle.claims.specs.World.{Exactly, Broken, Says, TraceSays, opened, Followed, adjusting, Asks, lastSaid, headerRows, checkRows}
+use Rattle.recorder.specs.Words.{refusalSays as recorderSays}
+use Rattle.recorder.specs.Calls.{zeroRecorder, roomFor, beginRows, addRows, closeRows, beginVerdict, addVerdict, closeVerdict, beginAfter, addAfter, closeAfter}
+use Rattle.recorder.specs.Runs.{Tape, tapeOf, afterAdds, afterClose, kept, Reads, valueOf, recordsOf, shown, afterRecording, callsOf}
+use Rattle.recorder.specs.declared.Recorder.{Recorder}
+use Rattle.claims.specs.World.{Exactly, Broken, Says, TraceSays, opened, ClosesAs, Followed, adjusting, Asks, lastSaid, headerRows, checkRows}
 use Rattle.claims.proofs.Opening as opening
 use Rattle.claims.proofs.Traces as traces
 use Rattle.claims.proofs.Refused as refusing
+use Rattle.claims.proofs.Recorded as recording
 use Rattle.claims.proofs.Runs.{run-sound, run-read, call-follows}
 use Rattle.claims.proofs.Drift.{run-near, run-bounded, victim-said}
 
@@ -131,6 +143,117 @@ module _ (n : Numbers) (accepted : openVerdict n ≡ Fine) (frames store : List 
       → (page : ℕ) → locate (stateOf (used .state)) page ≡ Absent → (c : Call) → Asks page c → verdictOf pools used c ≡ Fine
       → left pools used c .said ≡ lastSaid (stateOf (used .state)) (aboveExact (length (stateOf (used .state) .lists .C)) exact)
   demand-3-victim = victim-said used used-sound (length made) exact demand-3
+
+-- ---- the writer of trace files: on any recorder and any buffer its calls say a refusal exactly when its row is the first that holds, and then both stay
+
+module _ (n : Numbers) (notes buffer : List ℕ) (y : Refusal) where
+  pub demand-1-begin : Exactly (beginAfter n notes buffer .said ≡ recorderSays y) (GivenBy y (beginRows n (length notes) (length buffer)))
+  demand-1-begin = recording.begin-exactly n notes buffer y
+
+  -- there is no recorder yet: the one of all zeros is returned
+  pub demand-1-begin-leaves : beginAfter n notes buffer .said ≡ recorderSays y
+      → beginAfter n notes buffer ≡ record { recorder = zeroRecorder; said = recorderSays y; buffer = buffer }
+  demand-1-begin-leaves = recording.begin-leaves n notes buffer y
+
+module _ (x : Recorder) (buffer : List ℕ) (y : Refusal) where
+  pub demand-1-add : (r : Record) → Exactly (addAfter x r buffer .said ≡ recorderSays y) (GivenBy y (addRows x r (length buffer)))
+  demand-1-add = recording.add-exactly x buffer y
+
+  pub demand-1-add-leaves : (r : Record) → addAfter x r buffer .said ≡ recorderSays y
+      → addAfter x r buffer ≡ record { recorder = x; said = recorderSays y; buffer = buffer }
+  demand-1-add-leaves = recording.add-leaves x buffer y
+
+  pub demand-1-close : Exactly (closeAfter x buffer .said ≡ recorderSays y) (GivenBy y (closeRows x (length buffer)))
+  demand-1-close = recording.close-exactly x buffer y
+
+  pub demand-1-close-leaves : closeAfter x buffer .said ≡ recorderSays y → closeAfter x buffer ≡ record { recorder = x; said = recorderSays y; buffer = buffer }
+  demand-1-close-leaves = recording.close-leaves x buffer y
+
+-- and that of all zeros is refused 1
+pub demand-1-zero-recorder : (r : Record) (m : ℕ)
+    → (addVerdict zeroRecorder r m ≡ Refused-by OutOfLimits) × (closeVerdict zeroRecorder m ≡ Refused-by OutOfLimits)
+demand-1-zero-recorder r m = (recording.zero-add r m, recording.zero-close m)
+
+-- "What is closed, untouched by others, is read back as the same records": whatever records were offered since `begin`, refused ones among them, closing is
+-- not refused; the buffer begins with the trace of those that were kept, which the reader accepts and reads as these records, the notes and the numbers as
+-- given, and every byte behind it is as it was
+module _ (n : Numbers) (notes buffer : List ℕ) (begun : beginVerdict n (length notes) (length buffer) ≡ Fine) (offered : List Record) where
+  abbrev pub begun-with : Tape
+  begun-with = tapeOf (beginAfter n notes buffer)
+
+  pub recorded-closes : let x = afterAdds begun-with offered in
+      let rs = kept begun-with offered in
+      let s = traceBytes notes rs n in
+      ClosesAs x s buffer
+      × Reads s notes rs n
+  recorded-closes = recording.adds-closed n notes buffer begun offered
+
+  -- it may go on after that: further records go over the trailer, and it is closed again
+  pub recorded-closes-again : (more : List Record)
+      → let z = afterClose (afterAdds begun-with offered) in
+      let x = afterAdds z more in
+      let rs = kept begun-with offered ++ kept z more in
+      let s = traceBytes notes rs n in
+      ClosesAs x s buffer
+      × Reads s notes rs n
+  recorded-closes-again = recording.closed-again n notes buffer begun offered
+
+-- "what the reader accepts is written back as the same bytes, notes included, with costs as the file gave them"
+module _ (s : List ℕ) (t : Trailer) (bytes : AllBelow 256 s) (fine : checkedOf s ≡ Read-fine t) (buffer : List ℕ) (long : length s ≤ length buffer) where
+  pub written-back : let x = afterAdds (tapeOf (beginAfter (numbersIn t) (notesIn s t) buffer)) (recordsIn s t) in
+      (beginVerdict (numbersIn t) (length (notesIn s t)) (length buffer) ≡ Fine)
+      × ClosesAs x s buffer
+  written-back = (recording.back-begins s t bytes fine buffer long, recording.back-closed s t bytes fine buffer long)
+
+-- "If recording began at opening, with the numbers the pool holds, a run of the trace gives the same hits, victims, lists, target and counts": any calls
+-- from an accepted open, refused ones among them
+module _ (n : Numbers) (accepted : openVerdict n ≡ Fine) (frames store : List ℕ) (cs : List Call) where
+  abbrev pub recorded-in : List Record
+  recorded-in = gathered pools (recordsOf pools) (opened n frames store) cs
+
+  -- the numbers that the pool holds are those it was opened with, as open means them; a file with these was recorded on just these
+  pub recorded-numbers : (poolNumbers (openAfter n .pool) ≡ meant n) × (recordedOn (meant n) ≡ meant n)
+  recorded-numbers = (recording.pool-numbers n accepted, recording.drive-same n accepted)
+
+  -- recorded as they are served, in a buffer with room for them, they are the records of the closed trace
+  pub recorded-run : (notes buffer : List ℕ) → roomFor (length notes) (length recorded-in) (length buffer) ≡ true
+      → let x = afterRecording pools (opened n frames store) cs (tapeOf (beginAfter (meant n) notes buffer)) in
+      let s = traceBytes notes recorded-in (meant n) in
+      ClosesAs x s buffer
+      × Reads s notes recorded-in (meant n)
+  recorded-run = recording.run-closed n accepted frames store cs
+
+  -- and a run of these on any frames and store of the right sizes, from an open with those numbers, shows at each record what the call showed: what it
+  -- says, and the pool that it leaves; none of them is refused
+  pub replayed : (frames′ store′ out : List ℕ) → length frames′ ≡ meant n .b * meant n .P → length store′ ≡ meant n .N * meant n .P → length out ≡ meant n .P
+      → (openVerdict (meant n) ≡ Fine)
+      × (gathered pools (shown pools) (opened n frames store) cs ≡ gathered pools (shown pools) (opened (meant n) frames′ store′) (callsOf out recorded-in))
+      × (length (gathered pools (shown pools) (opened (meant n) frames′ store′) (callsOf out recorded-in)) ≡ length recorded-in)
+  replayed frames′ store′ out f s o = (
+    recording.meant-opens n accepted,
+    recording.run-again n accepted frames store cs frames′ store′ out f s o,
+    recording.run-again-served n accepted frames store cs frames′ store′ out f s o,
+  )
+
+  -- in a buffer that fills, the records that found room are the first of them, and a run of these shows the first of what the calls showed
+  pub recorded-front : (notes buffer : List ℕ) → beginVerdict (meant n) (length notes) (length buffer) ≡ Fine
+      → (k : ℕ)
+      × (let x = afterRecording pools (opened n frames store) cs (tapeOf (beginAfter (meant n) notes buffer)) in
+      let s = traceBytes notes (take k recorded-in) (meant n) in
+      ClosesAs x s buffer × Reads s notes (take k recorded-in) (meant n))
+  recorded-front = recording.front-closed n accepted frames store cs
+
+  pub replayed-front : (frames′ store′ out : List ℕ) → length frames′ ≡ meant n .b * meant n .P → length store′ ≡ meant n .N * meant n .P
+      → length out ≡ meant n .P → (k : ℕ)
+      → gathered pools (shown pools) (opened (meant n) frames′ store′) (callsOf out (take k recorded-in))
+      ≡ take k (gathered pools (shown pools) (opened n frames store) cs)
+  replayed-front = recording.run-again-front n accepted frames store cs
+
+  -- "For a write the record's value is byte 0 of the page after the call", as all served writes left it
+  pub recorded-byte : (page start : ℕ) (bytes : List ℕ) → verdictOf pools (afterAll pools (opened n frames store) cs) (write page start bytes) ≡ Fine
+      → valueOf pools (afterAll pools (opened n frames store) cs) page start bytes
+      ≡ getD (laid page start bytes (history pools (opened n frames store) cs (λ p. pageOf (meant n .P) p store)) page) 0 0
+  recorded-byte = recording.value-last n accepted frames store cs
 
 -- ---- the listing and P1 to P9
 

@@ -4,7 +4,7 @@
 use mathlib.Core.Path.{_≡_, refl, sym, ap, _∙_, subst}
 use mathlib.Core.Bool.{Bool, true, false, false≢true}
 use mathlib.Core.List.{List, [], _∷_}
-use Prim.Native.Nat.{ℕ}
+use Prim.Native.Nat.{ℕ, _*_}
 use lib.ListN.{length}
 use Rattle.pages.specs.Pages.{pageOf}
 use Rattle.pages.specs.Memory.{sizesMatch}
@@ -56,12 +56,22 @@ run-stays : (cs : List Call) (x : World Pool) → sized x ≡ false → afterAll
 run-stays [] x h = refl
 run-stays (c ∷ cs) x h = ap (λ (y : World Pool). afterAll pools y cs) (sized-stays x h c) ∙ run-stays cs x h
 
-run-sized : (cs : List Call) (x : World Pool) (q : ℕ) (out : List ℕ) → verdictOf pools (afterAll pools x cs) (read q out) ≡ Fine → sized x ≡ true
-run-sized cs x q out e = go (sized x) refl
+-- a served call that lends bytes shows it
+abbrev Sized : Call → Type 0
+Sized c = (x : World Pool) → verdictOf pools x c ≡ Fine → sized x ≡ true
+
+run-sized : (c : Call) → Sized c → (cs : List Call) (x : World Pool) → verdictOf pools (afterAll pools x cs) c ≡ Fine → sized x ≡ true
+run-sized c lends cs x e = go (sized x) refl
   where
     go : (t : Bool) → sized x ≡ t → sized x ≡ true
     go true h = h
-    go false h = not-false _ (first-clear (rowsOf pools x (read q out)) (rw (run-stays cs x h) at e) .1 .0)
+    go false h = lends x (rw (run-stays cs x h) at e)
+
+read-sized : (q : ℕ) (out : List ℕ) → Sized (read q out)
+read-sized q out x e = not-false _ (first-clear (rowsOf pools x (read q out)) e .1 .0)
+
+write-sized : (q start : ℕ) (bytes : List ℕ) → Sized (write q start bytes)
+write-sized q start bytes x e = not-false _ (first-clear (rowsOf pools x (write q start bytes)) e .1 .0)
 
 -- ---- a pool that is sound stays so
 
@@ -76,24 +86,41 @@ module _ (n : Numbers) (accepted : openVerdict n ≡ Fine) (frames store : List 
   unfolding openAfter
   open-state = rw accepted (state-pool (openedState (meant n)) (opened-good (meant n) (open-limits n accepted) .placed .paged))
 
-  open-right : sized (opened n frames store) ≡ true → Right pools pools-lawful (opened n frames store) (λ p. pageOf (meant n .P) p store)
+  -- over memory of the right sizes every page is as the store has it
+  pub open-right : length frames ≡ meant n .b * meant n .P → length store ≡ meant n .N * meant n .P
+      → Right pools pools-lawful (opened n frames store) (λ p. pageOf (meant n .P) p store)
   unfolding pools-lawful pools-framed framed-lawful framed-pooled states-framed
-  open-right h =
-      let z = sizesMatch-sound (meant n .P) (meant n .b) (meant n .N) (length frames) (length store)
-      (subst (λ (s : State). sizesMatch (s .numbers .P) (s .numbers .b) (s .numbers .N) (length frames) (length store) ≡ true) open-state h) in
+  open-right f s =
       let m : Memory = record { frames = frames; store = store } in
       record {
         good = open-sound n accepted;
         keeps = subst (λ (s : State). Keeps (s .numbers) (record { content = contentIn (framesOf s); memory = m }) (λ p. pageOf (meant n .P) p store))
-            (sym open-state) (keeps-same (meant n) _ _ m _ (λ f. refl) (vacant-keeps (meant n) m (z .0) (z .1)));
+            (sym open-state) (keeps-same (meant n) _ _ m _ (λ f. refl) (vacant-keeps (meant n) m f s));
       }
+
+  sized-right : sized (opened n frames store) ≡ true → Right pools pools-lawful (opened n frames store) (λ p. pageOf (meant n .P) p store)
+  sized-right h =
+      let z = sizesMatch-sound (meant n .P) (meant n .b) (meant n .N) (length frames) (length store)
+      (subst (λ (s : State). sizesMatch (s .numbers .P) (s .numbers .b) (s .numbers .N) (length frames) (length store) ≡ true) open-state h) in
+      open-right (z .0) (z .1)
+
+  abbrev Kept-so : List Call → Type 0
+  Kept-so cs =
+      Right pools pools-lawful (afterAll pools (opened n frames store) cs) (history pools (opened n frames store) cs (λ p. pageOf (meant n .P) p store))
+
+  -- where a call that lends bytes is served, every page is as its history says
+  run-right-by : (c : Call) → Sized c → (cs : List Call) → verdictOf pools (afterAll pools (opened n frames store) cs) c ≡ Fine → Kept-so cs
+  run-right-by c lends cs e = run-right pools pools-lawful cs (opened n frames store) _ (sized-right (run-sized c lends cs (opened n frames store) e))
 
   -- a read that is served hands out the page as its history says
   pub run-read : (cs : List Call) (q : ℕ) (out : List ℕ) → verdictOf pools (afterAll pools (opened n frames store) cs) (read q out) ≡ Fine
       → left pools (afterAll pools (opened n frames store) cs) (read q out) .out ≡ history pools (opened n frames store) cs (λ p. pageOf (meant n .P) p store) q
   run-read cs q out e =
-      last-written pools pools-lawful (afterAll pools (opened n frames store) cs) _
-      (run-right pools pools-lawful cs (opened n frames store) _ (open-right (run-sized cs (opened n frames store) q out e))) q out e
+      last-written pools pools-lawful (afterAll pools (opened n frames store) cs) _ (run-right-by (read q out) (read-sized q out) cs e) q out e
+
+  pub run-write-right : (cs : List Call) (q start : ℕ) (bytes : List ℕ)
+      → verdictOf pools (afterAll pools (opened n frames store) cs) (write q start bytes) ≡ Fine → Kept-so cs
+  run-write-right cs q start bytes e = run-right-by (write q start bytes) (write-sized q start bytes) cs e
 
 -- ---- a served call of a sound pool does what Algorithm 1 does
 

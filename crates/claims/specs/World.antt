@@ -6,7 +6,7 @@ use mathlib.Core.Bool.{Bool, not}
 use mathlib.Core.List.{List, [], _∷_, _++_}
 use Prim.Native.Nat.{ℕ, _-_}
 use lib.Dec.{eqb, ltb}
-use lib.ListN.{length}
+use lib.ListN.{length, drop}
 use Rattle.pages.specs.Pages.{pageOf}
 use Rattle.model.specs.Numbers.{Numbers}
 use Rattle.model.specs.Words.{Said, flushed as saidFlushed, total as saidTotal, numberOf, namedBy, refusalSays, answerSays, faultSays}
@@ -28,6 +28,9 @@ use Rattle.trace.specs.Format.{trailerLength, trailerAt, trailerRows, badIn}
 use Rattle.trace.specs.Words.{checkedSays, refused}
 use Rattle.trace.specs.declared.Trailer.{Trailer}
 use Rattle.trace.specs.declared.Checked.{Checked}
+use Rattle.recorder.specs.Words.{closed}
+use Rattle.recorder.specs.Calls.{closeAfter}
+use Rattle.recorder.specs.Runs.{Tape}
 
 -- the one holds exactly when the other does
 abbrev pub Exactly : Type 0 → Type 0 → Type 0
@@ -47,6 +50,10 @@ TraceSays a y = checkedSays a ≡ refused (numberOf y) (namedBy y)
 -- the world after `casa::open`, with the bytes that the caller will lend
 abbrev pub opened : Numbers → List ℕ → List ℕ → World Pool
 opened n frames store = worldOf (openAfter n .pool) frames store
+
+-- closing a recorder leaves the trace s at the front of a buffer that first was b₀, and every byte behind it, and says how long the trace is
+abbrev pub ClosesAs : Tape → List ℕ → List ℕ → Type 0
+ClosesAs x s b₀ = closeAfter (x .recorder) (x .buffer) ≡ record { recorder = x .recorder; said = closed (length s); buffer = s ++ drop (length s) b₀ }
 
 -- ---- a call that is served, of a pool that holds state s, over bytes m, leaves l as Algorithm 1 does: the pool's state, what is said, and, by the frame,
 -- the bytes

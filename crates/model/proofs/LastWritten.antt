@@ -5,7 +5,7 @@
 --     call-right, run-right        and the bytes keep the history
 --     last-written                 a read that is served hands out the page as the history has it
 -- Assumes nothing.
-use mathlib.Core.Path.{_≡_, sym, ap, _∙_}
+use mathlib.Core.Path.{_≡_, refl, sym, ap, _∙_}
 use mathlib.Core.List.{List, [], _∷_}
 use Prim.Native.Nat.{ℕ, _+_, _≤_, _<_}
 use lib.ListN.{length, getD}
@@ -64,6 +64,17 @@ module _ (π : Policy) (ok : Lawful π) where
   pub run-good : (cs : List Call) (x : World (π .State)) → ok .Good (x .state) → ok .Good (afterAll π x cs .state)
   run-good [] x g = g
   run-good (c ∷ cs) x g = run-good cs (after π x c) (call-good x g c)
+
+  -- the numbers that the pool was opened with stay
+  pub call-numbers : (x : World (π .State)) → ok .Good (x .state) → (c : Call) → π .numbers (left π x c .state) ≡ π .numbers (x .state)
+  call-numbers x g c = call-cases π x c (λ l. π .numbers (l .state) ≡ π .numbers (x .state)) (λ y e. refl) (same-served c)
+    where
+      same-served : (d : Call) → verdictOf π x d ≡ Fine → π .numbers (served π x d .state) ≡ π .numbers (x .state)
+      same-served (read q out) e = let a = read-clear π x q out e in ok .request Read (costsIn π x) (x .state) q g (a .2) (a .1 .more) .same
+      same-served (write q start bytes) e =
+          let a = write-clear π x q start bytes e in ok .request Write (costsIn π x) (x .state) q g (a .2) (a .1 .more) .same
+      same-served flush e = ok .flush (x .state) g (flush-ready π x e .1 .more) .same
+      same-served total e = refl
 
   -- a good state over bytes that keep a history
   pub record Right (x : World (π .State)) (h : History) : Type 0 where

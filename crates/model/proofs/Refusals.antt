@@ -1,12 +1,12 @@
 -- A call that no row refuses: none of the conditions holds. Assumes nothing.
-use mathlib.Core.Path.{_≡_, refl, sym}
+use mathlib.Core.Path.{_≡_, refl, sym, ap}
 use mathlib.Core.Bool.{Bool, true, false, not, _&&_}
 use mathlib.Core.List.{List, [], _∷_}
 use Prim.Native.Nat.{ℕ, _+_, _≤_, _<_}
 use native.Mathlib.Omega.{arith}
 use lib.ListN.{length}
-use borrow.Author.Tests.{leb-true, leb-false, ltb-true}
-use Rattle.pages.proofs.Memory.{sizesMatch-sound}
+use borrow.Author.Tests.{leb-true, leb-false, lt-leb, ltb-true}
+use Rattle.pages.proofs.Memory.{sizesMatch-sound, sizesMatch-complete}
 use Rattle.model.specs.Numbers.{Numbers, mostServed}
 use Rattle.model.specs.Refusals.{Row, verdictBy, first, brokenPool, requestRows, flushRows, requestVerdict, flushVerdict, outputFits, stretchFits, Ready}
 use Rattle.model.specs.Policy.{Policy}
@@ -27,6 +27,10 @@ first-clear (x ∷ xs) e = go (x .when) refl e (first-clear xs)
     go : (t : Bool) → x .when ≡ t → verdictBy t (x .why) (first xs) ≡ Fine → (first xs ≡ Fine → AllClear xs) → (x .when ≡ false) × AllClear xs
     go true h d ih = let z : _≡_ {A = ℕ} 0 1 = cc in absurd (omega arith)
     go false h d ih = (h, ih d)
+
+pub clear-first : (xs : List Row) → AllClear xs → first xs ≡ Fine
+clear-first [] c = refl
+clear-first (x ∷ xs) c = rw (c .0) (clear-first xs (c .1))
 
 pub not-false : (t : Bool) → not t ≡ false → t ≡ true
 not-false true e = refl
@@ -55,6 +59,19 @@ flush-clear sound a served m n e =
     let c = first-clear (brokenPool sound ∷ flushRows a served m n) e in
     let z = sizesMatch-sound (a .P) (a .b) (a .N) m n (not-false _ (c .1 .0)) in
     (not-false sound (c .0), record { frames = z .0; store = z .1; more = leb-false mostServed served (c .1 .1 .0) })
+
+-- and a call of which no condition holds is served
+pub request-fine : (sound : Bool) (a : Numbers) (served m n page : ℕ) (fit : Bool) → sound ≡ true → Ready a served m n → page < a .N → fit ≡ true
+    → first (brokenPool sound ∷ requestRows a served m n page fit) ≡ Fine
+request-fine sound a served m n page fit s l inside f =
+    let sizes = sizesMatch-complete (a .P) (a .b) (a .N) m n (l .frames) (l .store) in
+    clear-first (brokenPool sound ∷ requestRows a served m n page fit)
+    (ap not s, (ap not sizes, (lt-leb (a .N) page inside, (ap not f, (lt-leb mostServed served (l .more), tt)))))
+
+pub flush-fine : (sound : Bool) (a : Numbers) (served m n : ℕ) → sound ≡ true → Ready a served m n → first (brokenPool sound ∷ flushRows a served m n) ≡ Fine
+flush-fine sound a served m n s l =
+    let sizes = sizesMatch-complete (a .P) (a .b) (a .N) m n (l .frames) (l .store) in
+    clear-first (brokenPool sound ∷ flushRows a served m n) (ap not s, (ap not sizes, (lt-leb mostServed served (l .more), tt)))
 
 -- a stretch that fits has bytes and ends within the page
 pub stretch-fits : (P start n : ℕ) → stretchFits P start n ≡ true → (0 < n) × (start + n ≤ P)

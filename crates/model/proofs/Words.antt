@@ -8,7 +8,7 @@ use Rattle.model.specs.Words.{numberOf, namedBy, refusalSays, answerSays
 use Rattle.model.specs.declared.Victim.the-variants.{None, Clean, Dirty}
 use Rattle.model.specs.declared.Refusal.{Refusal}
 use Rattle.model.specs.declared.Refusal.the-variants.{OutOfLimits, BrokenPool, WrongMemory, NoSuchPage, WrongBytes, Spent}
-use Rattle.model.specs.declared.Refusal.the-variants.{NotATrace, BadRecord, LongFile, LargePool}
+use Rattle.model.specs.declared.Refusal.the-variants.{NotATrace, BadRecord, LongFile, LargePool, NoRoom}
 use Rattle.model.specs.declared.Answer.{Answer}
 use Rattle.model.specs.declared.Answer.the-variants as answer
 use Rattle.model.specs.declared.Opening.{Opening}
@@ -26,7 +26,7 @@ one-to-one f back home x y e = sym (home x) ∙ ap back e ∙ home y
 
 abbrev refusalBy : ℕ → List ℕ → Refusal
 refusalBy n ks =
-    let from-7 = NotATrace ∷ BadRecord (getD ks 0 0) ∷ LongFile ∷ LargePool ∷ [] in
+    let from-7 = NotATrace ∷ BadRecord (getD ks 0 0) ∷ LongFile ∷ LargePool ∷ NoRoom ∷ [] in
     getD (Spent ∷ OutOfLimits ∷ BrokenPool ∷ WrongMemory ∷ NoSuchPage ∷ WrongBytes ∷ Spent ∷ from-7) n Spent
 
 refusal-home : (x : Refusal) → refusalBy (numberOf x) (namedBy x) ≡ x
@@ -40,6 +40,7 @@ refusal-home NotATrace = refl
 refusal-home (BadRecord k) = refl
 refusal-home LongFile = refl
 refusal-home LargePool = refl
+refusal-home NoRoom = refl
 
 -- what is said, by what to make of a refusal, of a flush and of a total, and of all else
 abbrev heard : {A : Type 0} → (Refusal → A) → (ℕ → A) → (ℕ → A) → A → Said → A

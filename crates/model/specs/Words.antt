@@ -6,7 +6,7 @@ use Rattle.model.specs.declared.Victim.{Victim}
 use Rattle.model.specs.declared.Victim.the-variants.{None, Clean, Dirty}
 use Rattle.model.specs.declared.Refusal.{Refusal}
 use Rattle.model.specs.declared.Refusal.the-variants.{OutOfLimits, BrokenPool, WrongMemory, NoSuchPage, WrongBytes, Spent}
-use Rattle.model.specs.declared.Refusal.the-variants.{NotATrace, BadRecord, LongFile, LargePool}
+use Rattle.model.specs.declared.Refusal.the-variants.{NotATrace, BadRecord, LongFile, LargePool, NoRoom}
 use Rattle.model.specs.declared.Answer.{Answer}
 use Rattle.model.specs.declared.Answer.the-variants as answer
 use Rattle.model.specs.declared.Opening.{Opening}
@@ -42,6 +42,7 @@ numberOf NotATrace = 7
 numberOf (BadRecord k) = 8
 numberOf LongFile = 9
 numberOf LargePool = 10
+numberOf NoRoom = 11
 
 abbrev pub namedBy : Refusal → List ℕ
 namedBy OutOfLimits = []
@@ -54,6 +55,7 @@ namedBy NotATrace = []
 namedBy (BadRecord k) = k ∷ []
 namedBy LongFile = []
 namedBy LargePool = []
+namedBy NoRoom = []
 
 abbrev pub refusalSays : Refusal → Said
 refusalSays x = refused (numberOf x) (namedBy x)

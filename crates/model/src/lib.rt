@@ -51,6 +51,7 @@ pub enum Refusal {
     BadRecord(usize),
     LongFile,
     LargePool,
+    NoRoom,
 }
 
 // Whether something is refused, before anything is done.
@@ -99,6 +100,7 @@ pub fn number_of(why: Refusal) -> u64
         Refusal::BadRecord(_) => 8,
         Refusal::LongFile => 9,
         Refusal::LargePool => 10,
+        Refusal::NoRoom => 11,
     }
 }
 

@@ -1,4 +1,4 @@
--- The laws of `pages`: Copy and Splice for its own loops, Pages and Memory for its callers. Assumes nothing.
+-- The laws of `pages`: Copy for its own loops; Splice, Pages and Memory for its callers too. Assumes nothing.
 pub mod Copy
 pub mod Splice
 pub mod Pages

@@ -1,11 +1,12 @@
 -- Laws of `splice`: a stretch of a list is replaced by another of its length.
 -- Assumes nothing.
 use mathlib.Core.Path.{_≡_, sym, ap, _∙_}
-use mathlib.Core.List.{List, _++_, append-assoc}
-use Prim.Native.Nat.{ℕ, _+_, _-_, _≤_}
+use mathlib.Core.List.{List, [], _∷_, _++_, append-assoc}
+use Prim.Native.Nat.{ℕ, _+_, _-_, _≤_, _<_}
+use native.Mathlib.Numerals.{add-one}
 use native.Mathlib.Omega.{arith}
-use lib.ListN.{length, take, drop, length-append, length-take, length-drop, take-append-drop}
-use lib.Seq.{length-take-le, take-append-le, drop-append-le, take-append-seam, drop-append-seam, drop-at, drop-drop, take-add}
+use lib.ListN.{length, take, drop, set, length-append, length-take, length-drop, take-append-drop}
+use lib.Seq.{length-take-le, take-append-le, drop-append-le, take-append-seam, drop-append-seam, set-split, take-at, drop-at, drop-drop, take-add}
 use Rattle.pages.specs.Pages.{splice}
 
 -- ---- lengths
@@ -47,6 +48,10 @@ splice-before a n at ys xs h k =
     ∙ sym (part-append a n (take at xs) (drop at xs) l)
     ∙ ap (λ (zs : List ℕ). take n (drop a zs)) (take-append-drop at xs)
 
+-- up to the end of the stretch
+pub splice-front : (at : ℕ) (ys xs : List ℕ) → at ≤ length xs → take (at + length ys) (splice at ys xs) ≡ take at xs ++ ys
+splice-front at ys xs h = rw (take-add, splice-here) (ap (λ (zs : List ℕ). zs ++ ys) (splice-before 0 at at ys xs (omega arith) h))
+
 pub splice-after : (a at : ℕ) (ys xs : List ℕ) → at + length ys ≤ a → at ≤ length xs → drop a (splice at ys xs) ≡ drop a xs
 splice-after a at ys xs h k =
     let e : at + length ys + (a - (at + length ys)) ≡ a = omega arith in
@@ -76,3 +81,15 @@ splice-within a n at ys xs h k =
     let l : at + length ys ≤ length (take n (drop a xs)) = omega (arith, part-length a n xs k) in
     let e = rw take-append-drop at (splice-append at ys (take n (drop a xs)) (drop n (drop a xs)) l) in
     rw (splice-add, e) (splice-is a n (splice at ys (take n (drop a xs))) xs (splice-part-length a n at ys xs h k))
+
+-- ---- one element, and a stretch behind a stretch
+
+pub splice-set : (at a : ℕ) (xs : List ℕ) → at < length xs → set xs at a ≡ splice at (a ∷ []) xs
+unfolding splice
+splice-set at a xs h = rw (drop-drop, add-one) (set-split xs at a h)
+
+pub splice-join : (at n : ℕ) (ys zs xs : List ℕ) → length ys ≡ n → at ≤ length xs → splice (at + n) zs (splice at ys xs) ≡ splice at (ys ++ zs) xs
+unfolding splice
+splice-join at n ys zs xs e h =
+    let f : take at (splice at ys xs) ≡ take at xs = take-at (take at xs) _ at (length-take-le at xs h) in
+    rw (splice-add, f, splice-rest, ← e, take-append-seam, drop-append-seam, length-append, ← drop-drop, append-assoc)

@@ -1,9 +1,6 @@
 // Makes the public calls in large numbers and prints digests of all that they leave: every short sequence on a small pool, random runs at every number of
 // frames, and calls on pools in which one thing was changed. tests/sweep.py says what must be printed.
 ghost use Prim.Native.Nat.{_≤_};
-
-pub mod digest;
-
 use calls::FAULT;
 use calls::FLUSH;
 use calls::HIT;
@@ -12,6 +9,7 @@ use calls::Left;
 use calls::TOTAL;
 use calls::chance;
 use calls::chance::World;
+use calls::digest;
 use calls::turns;
 use calls::turns::Plan;
 use calls::turns::Turn;
@@ -59,7 +57,7 @@ fn absorb_left(tally: Tally, left: Left, frames: &[u8], store: &[u8], out: &[u8]
 }
 
 fn tell_digest(digest: u32) {
-    number((digest::FULL - digest) as u64);
+    number(digest::printed(digest));
     tell::end();
 }
 

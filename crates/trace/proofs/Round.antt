@@ -1,13 +1,15 @@
--- What is encoded decodes to itself: the header, each record and the whole trace. The notes and the records have known lengths, so the reader's
--- places in the file are the starts of the trailer and of each record; there the bytes of a number spell the number. Assumes nothing.
+-- What is encoded decodes to itself: the header, each record and the whole trace, and with it the notes and the list of records. The notes and the
+-- records have known lengths, so the reader's places in the file are the starts of the trailer and of each record; there the bytes of a number spell
+-- the number. Assumes nothing.
 use mathlib.Core.Path.{_≡_, refl, sym, ap, _∙_}
 use mathlib.Core.Bool.{true}
 use mathlib.Core.List.{List, [], _∷_, _++_, append-assoc}
 use Prim.Native.Nat.{ℕ, zero, suc, _+_, _*_, _-_, _^_, _≤_, _<_}
 use native.Mathlib.Nat.{add-zero, mul-suc, add-comm, not-suc-le-zero, le-of-suc-le-suc}
+use native.Mathlib.Numerals.{add-one}
 use native.Mathlib.Omega.{arith}
-use lib.ListN.{length, getD, drop, length-append}
-use lib.Seq.{drop-at, drop-drop, drop-append-seam, getD-drop}
+use lib.ListN.{length, getD, drop, length-append, drop-of-length-le}
+use lib.Seq.{drop-at, drop-cons, drop-drop, take-append-seam, drop-append-seam, getD-drop}
 use borrow.Author.Tests.{lt-ltb, le-ltb, eq-eqb, le-leb}
 use Rattle.little.specs.Little.{bytesOf}
 use Rattle.little.proofs.Laws.{numberOf-bytesOf}
@@ -18,7 +20,7 @@ use Rattle.trace.specs.declared.Record.{Record}
 use Rattle.trace.specs.declared.Record.the-variants.{Read, Write, Flush}
 use Rattle.trace.specs.declared.Next.the-variants.{Record as Found}
 use Rattle.trace.specs.Format.{numberAt, trailerLength, trailerAt, recordedOn, pointsBack, judged, headerOf}
-use Rattle.trace.specs.Format.{recordOf, recordIn, recordAt, isEnd, checkedOf}
+use Rattle.trace.specs.Format.{recordOf, recordIn, recordAt, isEnd, checkedOf, notesIn, recordsFrom, recordsIn}
 use Rattle.trace.specs.Encode.{recordBytes, recordsBytes, trailerOf, trailerBytes, traceBytes, RecordIn, RecordsIn}
 use Rattle.trace.proofs.Bytes.{numberAt-drop}
 use Rattle.model.proofs.Limits.{onDrive-limits}
@@ -26,7 +28,7 @@ use Rattle.trace.proofs.Records.{firstBad-zero}
 
 -- ---- the parts of the file
 
-recordBytes-length : (r : Record) → length (recordBytes r) ≡ 4
+pub recordBytes-length : (r : Record) → length (recordBytes r) ≡ 4
 unfolding bytesOf
 recordBytes-length (Read q) = refl
 recordBytes-length (Write q v) = refl
@@ -37,7 +39,15 @@ recordsBytes-length [] = refl
 recordsBytes-length (r ∷ rs) =
     rw (length-append, recordBytes-length, recordsBytes-length rs, mul-suc) (add-comm 4 (4 * length rs))
 
-trailerBytes-length : (t : Trailer) → length (trailerBytes t) ≡ trailerLength
+pub recordsBytes-append : (rs qs : List Record) → recordsBytes (rs ++ qs) ≡ recordsBytes rs ++ recordsBytes qs
+recordsBytes-append [] qs = refl
+recordsBytes-append (r ∷ rs) qs = rw (recordsBytes-append rs qs, append-assoc)
+
+pub recordsIn-append : (N : ℕ) (rs qs : List Record) → RecordsIn N rs → RecordsIn N qs → RecordsIn N (rs ++ qs)
+recordsIn-append N [] qs h k = k
+recordsIn-append N (r ∷ rs) qs h k = (h .0, recordsIn-append N rs qs (h .1) k)
+
+pub trailerBytes-length : (t : Trailer) → length (trailerBytes t) ≡ trailerLength
 unfolding trailerBytes bytesOf
 trailerBytes-length t = refl
 
@@ -124,7 +134,7 @@ recordIn-drop s at N =
 record-decoded : (N : ℕ) (r : Record) (rest : List ℕ) → N ≤ 65536 → RecordIn N r → recordIn (recordBytes r ++ rest) 0 N ≡ Found r
 unfolding recordIn recordOf numberAt bytesOf
 record-decoded N (Read q) rest l h = rw (numberOf-bytesOf 2 q (omega arith), lt-ltb q N h)
-record-decoded N (Write q v) rest l h = rw (numberOf-bytesOf 2 q (omega arith), lt-ltb q N (h .0))
+record-decoded N (Write q v) rest l h = rw (numberOf-bytesOf 2 q (omega arith), lt-ltb q N h)
 record-decoded N Flush rest l h = rw (numberOf-bytesOf 2 0 (omega arith))
 
 drop-record : (r : Record) (rs : List Record) (rest : List ℕ) (k : ℕ)
@@ -166,3 +176,20 @@ decoded notes rs n e r h =
     (λ k l m. ap isEnd (recordIn-decoded notes rs n e r k (omega arith)))
     in
     rw (decoded-header notes rs n e h, start-decoded notes rs n, none)
+
+-- ---- what the reader finds in the whole trace
+
+pub decoded-notes : (notes : List ℕ) (rs : List Record) (n : Numbers) → notesIn (traceBytes notes rs n) (trailerOf (length rs) n) ≡ notes
+unfolding traceBytes
+decoded-notes notes rs n = rw (start-decoded notes rs n) (take-append-seam notes _)
+
+-- where each of rs is found at its place, the `left` records from place k on are those of rs
+recordsFrom-drop : (s : List ℕ) (rs : List Record) → ((k : ℕ) → k < length rs → recordAt s k ≡ Found (getD rs k Flush))
+    → (k left : ℕ) → k + left ≡ length rs → recordsFrom s k left ≡ drop k rs
+recordsFrom-drop s rs f k zero h = sym (drop-of-length-le rs {i = k} (omega arith))
+recordsFrom-drop s rs f k (suc left) h =
+    rw (f k (omega arith), recordsFrom-drop s rs f (k + 1) left (omega arith), add-one) (sym (drop-cons rs k Flush (omega arith)))
+
+pub decoded-records : (notes : List ℕ) (rs : List Record) (n : Numbers) → inLimits (recordedOn n) ≡ true → RecordsIn (n .N) rs
+    → trailerLength + 4 * length rs < 2 ^ 32 → recordsIn (traceBytes notes rs n) (trailerOf (length rs) n) ≡ rs
+decoded-records notes rs n e r h = recordsFrom-drop (traceBytes notes rs n) rs (decoded-record notes rs n e r h) 0 (length rs) (omega arith)

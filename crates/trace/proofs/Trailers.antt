@@ -2,7 +2,7 @@
 use mathlib.Core.Path.{_≡_, refl}
 use mathlib.Core.Bool.{Bool, true, false, cond as if-else}
 use mathlib.Core.List.{List}
-use Prim.Native.Nat.{ℕ, _+_, _*_, _≤_}
+use Prim.Native.Nat.{ℕ, _+_, _*_, _-_, _≤_}
 use native.Mathlib.Omega.{arith}
 use lib.ListN.{length}
 use lib.Dec.{ltb}
@@ -18,7 +18,7 @@ use Rattle.trace.specs.declared.Trailer.{Trailer}
 use Rattle.trace.specs.declared.Drive.{Drive}
 use Rattle.trace.specs.declared.Checked.{Checked}
 use Rattle.trace.specs.declared.Checked.the-variants.{Refused, Fine}
-use Rattle.trace.specs.Format.{trailerLength, numbersIn, recordedRead, recordedWrite, recordedOn, driveOf, pointsBack, trailerRows}
+use Rattle.trace.specs.Format.{trailerLength, trailerAt, numbersIn, recordedRead, recordedWrite, recordedOn, driveOf, pointsBack, trailerRows}
 use Rattle.trace.specs.Format.{checkedBy, judged, headerOf}
 
 -- ---- a trailer that is not refused
@@ -44,6 +44,13 @@ judged-fine n t u e =
 long-enough : (b : Bool) (x : Checked) (t : Trailer) → if-else b (Refused NotATrace) x ≡ Fine t → x ≡ Fine t
 long-enough true x t e = absurd (let z : _≡_ {A = ℕ} 0 1 = cc in omega arith)
 long-enough false x t e = e
+
+-- it is that of the last twenty bytes
+pub header-trailer : (s : List ℕ) (t : Trailer) → headerOf s ≡ Fine t → trailerAt s (length s - trailerLength) ≡ t
+unfolding headerOf judged
+header-trailer s t e =
+    let u = trailerAt s (length s - trailerLength) in
+    fine-by (first (trailerRows (length s) u)) u t (long-enough (ltb (length s) trailerLength) _ t e) .1
 
 pub header-accepts : (s : List ℕ) (t : Trailer) → headerOf s ≡ Fine t → Accepted (length s) t
 unfolding headerOf

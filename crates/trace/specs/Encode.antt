@@ -41,10 +41,10 @@ trailerBytes t =
 unfoldable pub traceBytes : List ℕ → List Record → Numbers → List ℕ
 traceBytes notes rs n = notes ++ (recordsBytes rs ++ trailerBytes (trailerOf (length rs) n))
 
--- a record that a trace over N pages may have
+-- a record that a trace over N pages may have, its value being a byte
 abbrev pub RecordIn : ℕ → Record → Type 0
 RecordIn N (Read q) = q < N
-RecordIn N (Write q v) = (q < N) × (v < 256)
+RecordIn N (Write q v) = q < N
 RecordIn N Flush = Unit {0}
 
 abbrev pub RecordsIn : ℕ → List Record → Type 0

@@ -8,7 +8,7 @@
 -- Assumes nothing.
 use Prim.Native.Nat.{ℕ, zero, suc, _+_, _*_, _-_}
 use mathlib.Core.Bool.{Bool, true, false, not, _&&_, cond as if-else}
-use mathlib.Core.List.{List, [], _∷_}
+use mathlib.Core.List.{List, [], _∷_, _++_}
 use lib.Dec.{eqb, leb, ltb}
 use lib.ListN.{length, getD, take, drop}
 use Rattle.little.specs.Little.{numberOf}
@@ -22,6 +22,7 @@ use Rattle.trace.specs.declared.Trailer.{Trailer}
 use Rattle.trace.specs.declared.Drive.{Drive}
 use Rattle.trace.specs.declared.Checked.{Checked}
 use Rattle.trace.specs.declared.Checked.the-variants.{Refused, Fine}
+use Rattle.trace.specs.declared.Record.{Record}
 use Rattle.trace.specs.declared.Record.the-variants.{Read, Write, Flush}
 use Rattle.trace.specs.declared.Next.{Next}
 use Rattle.trace.specs.declared.Next.the-variants.{Record as Found, End}
@@ -139,6 +140,23 @@ checkedAll (Fine t) s = if-else (eqb (badIn s t) 0) (Fine t) (Refused (BadRecord
 -- a whole trace: refusals 7, 1 and 8, in that order
 unfoldable pub checkedOf : List ℕ → Checked
 checkedOf s = checkedAll (headerOf s) s
+
+-- ---- the whole of what a reader finds in a trace with trailer t that is not refused
+
+abbrev pub notesIn : List ℕ → Trailer → List ℕ
+notesIn s t = take (length s - t .distance) s
+
+abbrev pub foundAt : Next → List Record
+foundAt (Found r) = r ∷ []
+foundAt End = []
+
+-- the `left` records from place k on
+abbrev pub recordsFrom : List ℕ → ℕ → ℕ → List Record
+recordsFrom s k zero = []
+recordsFrom s k (suc left) = foundAt (recordAt s k) ++ recordsFrom s (k + 1) left
+
+abbrev pub recordsIn : List ℕ → Trailer → List Record
+recordsIn s t = recordsFrom s 0 (t .records)
 
 -- ---- a reader that the library made
 

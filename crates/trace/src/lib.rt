@@ -115,7 +115,7 @@ pub fn recorded_on(trailer: Trailer) -> Drive
 }
 
 // Whether a pool can be opened with the trailer's numbers.
-fn numbers_allowed(trailer: Trailer) -> bool
+pub fn numbers_allowed(trailer: Trailer) -> bool
     ensures { λ r. ⌜ r ≡ inLimits (recordedOn (numbersIn trailer)) ⌝ }
 {
     let drive = recorded_on(trailer);

@@ -1,9 +1,9 @@
--- `sweep::digest::widened` meets its contract: it ends, and every access is in range. The loop's invariant: i is at most 64. The measure is what is left of
+-- `calls::digest::widened` meets its contract: it ends, and every access is in range. The loop's invariant: i is at most 64. The measure is what is left of
 -- the pages. Assumes nothing.
 use Prim.Native.Nat.{_≤_, _-_}
 use borrow.Author.Needs.{needs}
-use Rattle.sweep.proofs.digest.widened.Statement.{statement}
-use Rattle.sweep.proofs.digest.widened.Tie as tie
+use Rattle.calls.proofs.digest.widened.Statement.{statement}
+use Rattle.calls.proofs.digest.widened.Tie as tie
 
 abbrev Inv-loop : tie.InvT-loop
 Inv-loop pages numbers₀ i₀ numbers i = i ≤ 64

@@ -7,6 +7,10 @@ use pool::Pool;
 // A digest starts with every bit set, and is printed with every bit turned.
 pub const FULL: u32 = 0xFFFFFFFF;
 
+pub fn printed(digest: u32) -> u64 {
+    (FULL - digest) as u64
+}
+
 // What four shifts make of each four bits.
 const SHIFTED: [u32; 16] = [
     0x00000000,

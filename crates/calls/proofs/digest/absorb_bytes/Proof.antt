@@ -1,10 +1,10 @@
--- `sweep::digest::absorb_bytes` meets its contract: it ends, and every access is in range. The loop's invariant: i is at most the length. The measure is
+-- `calls::digest::absorb_bytes` meets its contract: it ends, and every access is in range. The loop's invariant: i is at most the length. The measure is
 -- what is left of the bytes. Assumes nothing.
 use Prim.Native.Nat.{_≤_, _-_}
 use lib.ListN.{length}
 use borrow.Author.Needs.{needs}
-use Rattle.sweep.proofs.digest.absorb_bytes.Statement.{statement}
-use Rattle.sweep.proofs.digest.absorb_bytes.Tie as tie
+use Rattle.calls.proofs.digest.absorb_bytes.Statement.{statement}
+use Rattle.calls.proofs.digest.absorb_bytes.Tie as tie
 
 abbrev Inv-loop : tie.InvT-loop
 Inv-loop digest bytes now₀ i₀ now i = i ≤ length bytes
