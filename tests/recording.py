@@ -26,9 +26,9 @@ def shown(digest, answer, pool):
     return zlib.crc32(struct.pack('<QQ', *answer) + Raw(pool).packed(), digest)
 
 
-def lent(n):
-    """Zero bytes for frames and store."""
-    memory = Memory(256, n, 32)
+def lent():
+    """Frames of zero bytes, and a store that is filled by chance."""
+    memory = Memory(256, 512, 32)
     memory.frames[:] = bytes(256)
     return memory
 
@@ -54,7 +54,7 @@ def record(recorder, pool, call, memory, buffer):
 def again(trace):
     """A digest of what the records of a trace show on a fresh pool, with zero bytes in frames and store."""
     (_, _, b, P, N, r, w), records = model.records(trace)
-    pool, memory, digest = Pool(b, P, N, *model.costs(r, w, model.RECORDED_DRIVE)), lent(512), 0
+    pool, memory, digest = Pool(b, P, N, *model.costs(r, w, model.RECORDED_DRIVE)), lent(), 0
     memory.store[:] = bytes(512)
     for letter, value, page in records:
         call = dict(letter=letter, page=page, start=0, length=1, value=value, frames=b * P, store=N * P, out=P)
@@ -64,7 +64,7 @@ def again(trace):
 
 def run(frames, room):
     b, P, N, r, w = world(frames)
-    pool, memory, buffer, seed = Pool(b, P, N, r, w), lent(512), bytearray(UNTOUCHED * room), b
+    pool, memory, buffer, seed = Pool(b, P, N, r, w), lent(), bytearray(UNTOUCHED * room), b
     recorder = model.begin((b, P, N, pool.r, pool.w), b'by chance\n', buffer)
     digest, size = 0, dict(frames=b * P, store=N * P, out=P)
     for _ in range(100):
