@@ -2,8 +2,9 @@
    stands beside the plain twin to show what the proved calls still leave: part of what they gain over that one is the way of writing, which C can have too.
    What it does beyond the twin:
      - arrays are tested whole, 16 bytes at a time and without a way out, in the copy of the pool that goes back;
-     - one walk along C and D tests frames and pages at once, for a frame that stands twice has its page met twice. Up to 1,024 pages each has a mark of its own;
-       beyond, remainders by 2,048 have, and a mark that is met is looked at exactly;
+     - frames have no marks: numbers that fall down C and D merged leave no frame there twice. Where D or C is empty, they are compared four at a time;
+     - pages are walked in the order of their frames. Up to 1,024 pages each has a mark of its own; beyond, remainders by 2,048 have, and a mark that is met is looked at
+       exactly;
      - a page is looked up by one scan over the pages (which frame) and one over a list (which place). */
 #include "parts.h"
 #include <emmintrin.h>
@@ -46,29 +47,96 @@ static int lists_right(const pool *p)
     return none(_mm_or_si128(bad, wrong_in_list(p->empty, p->empty_len, last)));
 }
 
-/* Whether all pages are pages of the store, and 0 behind the frames. */
+/* Whether all pages are pages of the store, and there is 0 behind the frames. */
 static int pages_right(const pool *p)
 {
     v bad = _mm_setzero_si128(), last = _mm_set1_epi16((short)(p->pages - 1));
     for (int i = 0; i < PLACES; i += 8)
         bad = _mm_or_si128(bad, _mm_subs_epu16(load(p->page + i), last));
-    u16 behind = 0;
-    for (u64 f = p->frames; f < PLACES; f++)
-        behind |= p->page[f];
+    u64 b = p->frames, whole = (b + 7) / 8 * 8, behind = 0;
+    for (u64 i = whole; i < PLACES; i += 8)
+        bad = _mm_or_si128(bad, _mm_or_si128(load(p->page + i), _mm_or_si128(load(p->reference + i), load(p->reference + i + 4))));
+    for (u64 f = b; f < whole; f++)
+        behind |= p->page[f] | p->reference[f];
     return none(bad) && !behind;
 }
 
-/* Where some frame is empty: whether every frame stands in a list, and the empty ones have page 0. */
+/* Two frames' numbers, each with the four bytes behind it: the next frame's number, or behind the last frame's the target. */
+static __m128 two(const u32 *number, u8 f, u8 g)
+{
+    return _mm_loadh_pi(_mm_loadl_pi(_mm_setzero_ps(), (const __m64 *)(number + f)), (const __m64 *)(number + g));
+}
+
+static v four(const u32 *number, u8 f, u8 g, u8 h, u8 k)
+{
+    return _mm_castps_si128(_mm_shuffle_ps(two(number, f, g), two(number, h, k), 0x88));
+}
+
+/* Whether numbers fall from `last` down a list, and not to 0: four stretches of it at once, each from the number in front of it, then what is left. They are compared
+   as signed ones: `last` is positive, and what falls from it and ends positive was never anything else. gcc unrolls the loop in a function of its own alone. */
+__attribute__((noinline)) static int falling(const u32 *number, const u8 *list, u64 n, u32 last)
+{
+    u64 stretch = n / 8 * 2;
+    const u8 *a = list, *b = a + stretch, *c = b + stretch, *d = c + stretch, *rest = d + stretch;
+    v right = _mm_set1_epi32(-1);
+    if (stretch) {
+        v before = _mm_setr_epi32((int)last, (int)number[b[-1]], (int)number[c[-1]], (int)number[d[-1]]);
+#pragma GCC unroll 2
+        for (u64 i = 0; i < stretch; i += 2) {
+            v now = four(number, a[i], b[i], c[i], d[i]);
+            right = _mm_and_si128(right, _mm_cmpgt_epi32(before, now));
+            before = four(number, a[i + 1], b[i + 1], c[i + 1], d[i + 1]);
+            right = _mm_and_si128(right, _mm_cmpgt_epi32(now, before));
+        }
+        last = number[rest[-1]];
+    }
+    int wrong = _mm_movemask_epi8(right) != 0xffff;
+    for (; rest < list + n; rest++) {
+        wrong |= (int)number[*rest] >= (int)last;
+        last = number[*rest];
+    }
+    return !wrong && (int)last > 0;
+}
+
+/* Whether they fall down C and D merged. Then no frame stands there twice, for its number would. */
+static int merge_falls(const pool *p)
+{
+    const u32 *number = p->reference;
+    const u8 *c = p->clean, *d = p->dirty;
+    u64 cn = p->clean_len, dn = p->dirty_len, i = 0, j = 0;
+    u32 last = (u32)p->served + 1;
+    if (cn == 0)
+        return falling(number, d, dn, last);
+    if (dn == 0)
+        return falling(number, c, cn, last);
+    for (u32 x = number[c[0]], y = number[d[0]];;)
+        if (x > y) {
+            if (x >= last)
+                return 0;
+            last = x;
+            if (++i == cn)
+                return falling(number, d + j, dn - j, last);
+            x = number[c[i]];
+        } else {
+            if (y >= last)
+                return 0;
+            last = y;
+            if (++j == dn)
+                return falling(number, c + i, cn - i, last);
+            y = number[d[j]];
+        }
+}
+
+/* Where some frame is empty: whether each of E stands there once and has page and number 0. So none of them is in C or D, where no number is 0. */
 static int empty_right(const pool *p)
 {
-    u64 seen = 0, page = 0;
-    for (u64 i = 0; i < p->empty_len; i++)
-        seen |= 1ull << p->empty[i], page |= p->page[p->empty[i]];
-    for (u64 i = 0; i < p->clean_len; i++)
-        seen |= 1ull << p->clean[i];
-    for (u64 i = 0; i < p->dirty_len; i++)
-        seen |= 1ull << p->dirty[i];
-    return seen == below(p->frames) && page == 0;
+    u64 seen = 0, bad = 0;
+    for (u64 i = 0; i < p->empty_len; i++) {
+        u64 f = p->empty[i];
+        bad |= (seen >> f & 1) | p->page[f] | p->reference[f];
+        seen |= 1ull << f;
+    }
+    return !bad;
 }
 
 /* The frames of C and D that have a page, as bits; page 0 is also what the others have. */
@@ -104,38 +172,10 @@ static u64 several(u64 bits)
     return bits & (bits - 1);
 }
 
-/* Whether a frame of C or D stands there once, and nobody else has its page. gcc does better with a call here, clang without. */
-#ifndef __clang__
-__attribute__((noinline))
-#endif
-static int alone(const pool *p, u64 f, u64 page)
+/* All but one of the frames that have a page, as bits. The loop that asks this, which is seldom, does better with a call. */
+__attribute__((noinline)) static u64 others(const pool *p, u64 page)
 {
-    u64 in_clean = places(p->clean, p->clean_len, f), in_dirty = places(p->dirty, p->dirty_len, f);
-    return !(several(holders(p, page)) | several(in_clean) | several(in_dirty)) && !(in_clean && in_dirty);
-}
-
-static u8 met_near(const pool *p, const u8 *list, u64 n, u8 *marks)
-{
-    u8 met = 0;
-#pragma GCC unroll 8
-    for (u64 i = 0; i < n; i++) {
-        u8 *mark = marks + p->page[list[i]];
-        met |= *mark;
-        *mark = 1;
-    }
-    return met;
-}
-
-static int alone_far(const pool *p, const u8 *list, u64 n, u8 *marks)
-{
-    for (u64 i = 0; i < n; i++) {
-        u64 page = p->page[list[i]];
-        u8 *mark = marks + page % FAR;
-        if (*mark && !alone(p, list[i], page))
-            return 0;
-        *mark = 1;
-    }
-    return 1;
+    return several(holders(p, page));
 }
 
 /* By the library's memset, which writes 32 bytes at a time: where gcc knows the size, it puts in `rep stos`. */
@@ -145,25 +185,55 @@ static void clear(u8 *marks, u64 n)
     memset(marks, 0, n);
 }
 
-static int near_apart(const pool *p)
+static int near_apart(const u16 *page, u64 n)
 {
-    u8 marks[NEAR];
+    u8 marks[NEAR], met = 0;
     clear(marks, NEAR);
-    return !(met_near(p, p->clean, p->clean_len, marks) | met_near(p, p->dirty, p->dirty_len, marks));
+#pragma GCC unroll 8
+    for (u64 i = 0; i < n; i++) {
+        met |= marks[page[i]];
+        marks[page[i]] = 1;
+    }
+    return !met;
 }
 
-static int far_apart(const pool *p)
+static int far_apart(const pool *p, const u16 *page, u64 n)
 {
     u8 marks[FAR];
+    u64 met = 0;
     clear(marks, FAR);
-    return alone_far(p, p->clean, p->clean_len, marks) && alone_far(p, p->dirty, p->dirty_len, marks);
+#pragma GCC unroll 8
+    for (u64 i = 0; i < n; i++) {
+        if (marks[page[i] % FAR])
+            met |= others(p, page[i]);
+        marks[page[i] % FAR] = 1;
+    }
+    return !met;
+}
+
+/* Whether no two of n pages, those that the frames of C and D have, are the same. */
+static int apart(const pool *p, const u16 *page, u64 n)
+{
+    return p->pages <= NEAR ? near_apart(page, n) : far_apart(p, page, n);
+}
+
+/* The same where some frame is empty: its page 0 is none of them. */
+static int held_apart(const pool *p)
+{
+    u16 page[PLACES];
+    u64 n = 0;
+    for (u64 i = 0; i < p->clean_len; i++)
+        page[n++] = p->page[p->clean[i]];
+    for (u64 i = 0; i < p->dirty_len; i++)
+        page[n++] = p->page[p->dirty[i]];
+    return apart(p, page, n);
 }
 
 static int sound(const pool *p)
 {
-    if (!numbers_right(p) || !lists_right(p) || !pages_right(p) || (p->empty_len && !empty_right(p)))
+    if (!numbers_right(p) || !lists_right(p) || !pages_right(p) || !merge_falls(p))
         return 0;
-    return p->pages <= NEAR ? near_apart(p) : far_apart(p);
+    return p->empty_len ? empty_right(p) && held_apart(p) : apart(p, p->page, p->frames);
 }
 
 static void hit_clean(pool *p, u64 i, u8 f, int write)

@@ -19,6 +19,7 @@ static served read_page(pool p, u64 page, u8 *frames, u64 fn, u8 *store, u64 sn,
     if ((s.refused = examine(tested(&p, &s), fn, sn, page, on == p.page_bytes)))
         return s;
     u64 f = bring(&s, page, 0, frames, store);
+    s.pool.reference[f] = (u32)s.pool.served;
     memcpy(out, frames + f * on, on);
     return s;
 }
@@ -30,6 +31,7 @@ static served write_page(pool p, u64 page, u64 start, const u8 *bytes, u64 n, u8
     if ((s.refused = examine(tested(&p, &s), fn, sn, page, n > 0 && start <= size && n <= size - start)))
         return s;
     u64 f = bring(&s, page, 1, frames, store);
+    s.pool.reference[f] = (u32)s.pool.served;
     memcpy(frames + f * size + start, bytes, n);
     return s;
 }
@@ -45,8 +47,8 @@ static served flush(pool p, const u8 *frames, u64 fn, u8 *store, u64 sn)
         u64 f = p.dirty[i];
         memcpy(store + p.page[f] * size, frames + f * size, size);
     }
-    memmove(q->clean + p.dirty_len, p.clean, p.clean_len);
-    memcpy(q->clean, p.dirty, p.dirty_len);
+    for (u64 i = 0, c = 0, d = 0; i < p.clean_len + p.dirty_len; i++)
+        q->clean[i] = latest(&p, &c, &d);
     memset(q->dirty, 0, PLACES);
     q->clean_len += p.dirty_len, q->dirty_len = 0, q->writes += p.dirty_len, q->served++;
     return s;

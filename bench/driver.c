@@ -1,7 +1,8 @@
 /* driver LOAD b P N n SEED SERVED: makes a load of n calls behind a warm-up and serves it, or with SERVED 0 the warm-up alone, for counting instructions. The
    difference between the two, for two values of n, is what the calls cost, without the making of the load.
    Loads: trace (80 % of reads go to hot pages), front, last, spread (read hits at the front, at the last place, uniform), clean, dirty (faults), flush
-   (64 writes and a flush each), sound (totals), and those of the recorder, in records.c. Another SEED than 0 draws other pages. */
+   (b writes and a flush each), sound (totals), mixed (totals where C and D take turns down the reference numbers), and those of the recorder, in records.c.
+   Another SEED than 0 draws other pages. */
 #include "bench.h"
 #include "random.h"
 #include <stdio.h>
@@ -32,9 +33,9 @@ int main(int argc, char **argv)
     ops = calloc(room, 1), pages = calloc(room, 2);
     u8 *frames = calloc(b, P), *store = calloc(N, P), *out = calloc(1, P);
     /* pages that stand apart in the store, so that low bits meet where N is large */
-    u64 stride = N / (2 * b) ? N / (2 * b) : 1, dirty = !strcmp(load, "dirty") || !strcmp(load, "flush");
+    u64 stride = N / (2 * b) ? N / (2 * b) : 1, dirty = !strcmp(load, "dirty") || !strcmp(load, "flush"), mixed = !strcmp(load, "mixed");
     for (u64 i = 0; i < b; i++)
-        add(dirty, i * stride % N + (N > 1024 ? next() % stride : 0));
+        add(dirty || (mixed && i % 2), i * stride % N + (N > 1024 ? next() % stride : 0));
     u64 warm = made;
     for (u64 i = 0; i < n; i++) {
         u64 hot = next() % 10 < 8;
@@ -54,7 +55,7 @@ int main(int argc, char **argv)
             for (u64 k = 0; k < b; k++)
                 add(1, pages[k]);
             add(2, 0);
-        } else if (!strcmp(load, "sound"))
+        } else if (mixed || !strcmp(load, "sound"))
             totals = n;
     }
     if (!served)

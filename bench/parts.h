@@ -1,4 +1,5 @@
-/* What the twin and the best C do alike below their calls: test the numbers of a pool, open one, move frames along its lists, move the target, serve a fault. */
+/* What the twin and the best C do alike below their calls: test the numbers of a pool, open one, move frames along its lists, merge these, move the target, serve a
+   fault. */
 #include "pool.h"
 #include <string.h>
 
@@ -45,6 +46,13 @@ static void take(u8 *list, u64 at, u64 n)
 {
     memmove(list + at, list + at + 1, n - at - 1);
     list[n - 1] = 0;
+}
+
+/* The next frame where C and D are merged, latest reference first; one of them has one left. */
+PART u8 latest(const pool *p, u64 *c, u64 *d)
+{
+    int clean = *d == p->dirty_len || (*c < p->clean_len && p->reference[p->clean[*c]] > p->reference[p->dirty[*d]]);
+    return clean ? p->clean[(*c)++] : p->dirty[(*d)++];
 }
 
 static void raise(pool *p, u64 above, u64 below)

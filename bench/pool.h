@@ -14,6 +14,7 @@ typedef struct {
     u8 dirty[PLACES];
     u64 dirty_len;
     u16 page[PLACES];
+    u32 reference[PLACES]; /* the number of the served call that last read or wrote its page */
     u64 target, served, reads, writes;
 } pool;
 

@@ -1,6 +1,6 @@
 /* The page buffer once more, in C from the scope alone: the same calls, the same refusals, the pool handed in and handed back. It is the
-   plain C that the proved calls are measured against; best.c is the best one. Its soundness walk marks frames in a 64-bit word and pages in a small table by their
-   low bits, and looks further on a clash. */
+   plain C that the proved calls are measured against; best.c is the best one. Its soundness walk marks frames in a 64-bit word, merges C and D to see the reference
+   numbers fall, marks pages in a small table by their low bits, and looks further on a clash. */
 #include "parts.h"
 
 enum { TABLE = 1024 };
@@ -19,6 +19,19 @@ static int list_ok(const u8 *list, u64 n, u64 b, u64 *seen)
     return 1;
 }
 
+/* Down both lists at once the numbers must fall, from served at most to 1 at least: whatever stands twice or in the wrong order is met where they do not. */
+static int references_ok(const pool *p)
+{
+    u64 c = 0, d = 0, last = p->served + 1;
+    while (c < p->clean_len || d < p->dirty_len) {
+        u64 number = p->reference[latest(p, &c, &d)];
+        if (number >= last)
+            return 0;
+        last = number;
+    }
+    return last > 0;
+}
+
 static int sound(const pool *p)
 {
     u64 b = p->frames, seen = 0, gone;
@@ -27,12 +40,14 @@ static int sound(const pool *p)
     gone = seen;
     if (!list_ok(p->clean, p->clean_len, b, &seen) || !list_ok(p->dirty, p->dirty_len, b, &seen))
         return 0;
+    if (!references_ok(p))
+        return 0;
     u8 table[TABLE];
     memset(table, 0, sizeof table);
     for (u64 f = 0; f < PLACES; f++) {
         u64 q = p->page[f];
         if (f >= b || (gone >> f & 1)) {
-            if (q)
+            if (q || p->reference[f])
                 return 0;
             continue;
         }

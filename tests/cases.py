@@ -19,6 +19,15 @@ def trace(rs, b=2, P=16, N=8, r=1, w=3, notes=b''):
     return model.encode(notes, rs, b, P, N, r, w)
 
 
+def told(words):
+    """Records by a letter and a page each; a write's value is where it stands."""
+    return [(w[0], k % 256 if w[0] == 'W' else 0, int(w[1:] or 0)) for k, w in enumerate(words.split(), 1)]
+
+
+def reads(first, end):
+    return [('R', 0, page) for page in range(first, end)]
+
+
 def tail(distance, records, b=2, P=16, N=8, r=1, w=3):
     return struct.pack('<IIHHIHH', distance, records, b, P, N, r, w)
 
@@ -51,6 +60,16 @@ def edges():
     yield 'climb', trace([('R', 0, 0), ('W', 7, 1)] + [('R', 0, 0)] * 3 + [('R', 0, 2), ('R', 0, 3)], r=3, w=1)
     yield 'one-frame', trace([('W', 1, 0), ('R', 0, 1)], b=1)
     yield 'flush-of-nothing', trace([('F', 0, 0), ('R', 0, 0), ('F', 0, 0)])
+    # the order after a flush, seen in the victims behind it: the latest reference first, whichever list had the page
+    four_more = reads(4, 8)
+    yield 'flush-dirty-later', trace(told('R0 R1 W2 W3 F') + four_more, b=4)
+    yield 'flush-clean-later', trace(told('W0 W1 R2 R3 F') + four_more, b=4)
+    yield 'flush-interleaved', trace(told('R0 W1 R2 W3 F') + four_more, b=4)
+    yield 'flush-empty-left', trace(told('R0 W1 R0 F') + four_more, b=4)
+    yield 'flush-twice', trace(told('R0 W1 W2 R3 W1 R0 F F') + four_more, b=4)
+    yield 'flush-then-hits', trace(told('R0 W1 R2 W3 R4 W5 R0 F W2 R1 W4 R3 F') + reads(6, 12), b=6, N=12)
+    yield 'flush-one-frame', trace(told('W0 F R0 W0 F F R1 W0 R1 F W1 F R0'), b=1, N=2)
+    yield 'flush-64-frames', trace(told(' '.join('RW'[k % 3 == 1] + str(k * 37 % 64) for k in range(100)) + ' F') + reads(64, 128), b=64, N=128)
     yield 'no-records', trace([])
     yield 'usual-drive', trace(LISTING, r=0, w=0)  # named when 1 and 4 was what open made of it, too
     for n in (0, 1, 19):

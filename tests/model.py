@@ -35,7 +35,8 @@ def allowed(b, P, N, r, w):
 
 
 class Pool:
-    """The pool by the scope's words: E, C, D hold frames, the most recently used first."""
+    """The pool by the scope's words: E, C, D hold frames, the most recently used first. A resident frame's reference is the number of the served call that
+    last read or wrote its page."""
 
     def __init__(self, b, P, N, r, w):
         r, w = costs(r, w, USUAL_DRIVE)
@@ -43,12 +44,12 @@ class Pool:
             raise Refused(1)
         self.b, self.P, self.N, self.r, self.w = b, P, N, r, w
         self.E, self.C, self.D = list(range(b - 1, -1, -1)), [], []
-        self.page = [0] * b
+        self.page, self.reference = [0] * b, [0] * b
         self.target = self.served = self.nR = self.nW = 0
 
     def copied(self):
         other = copy.copy(self)
-        other.E, other.C, other.D, other.page = self.E[:], self.C[:], self.D[:], self.page[:]
+        other.E, other.C, other.D, other.page, other.reference = self.E[:], self.C[:], self.D[:], self.page[:], self.reference[:]
         return other
 
     # ---- soundness
@@ -61,7 +62,12 @@ class Pool:
         held = [self.page[f] for f in self.C + self.D]
         if any(q >= self.N for q in held) or len(set(held)) != len(held):
             return False
-        if any(self.page[f] != 0 for f in self.E):
+        if any(self.page[f] != 0 or self.reference[f] != 0 for f in self.E):
+            return False
+        clean, dirty = ([self.reference[f] for f in some] for some in (self.C, self.D))
+        if clean != sorted(clean, reverse=True) or dirty != sorted(dirty, reverse=True):
+            return False
+        if any(not 1 <= k <= self.served for k in clean + dirty) or len(set(clean + dirty)) != len(clean + dirty):
             return False
         return (0 <= self.target <= self.b * UNIT and self.served <= MOST_SERVED
                 and self.nR <= self.served and self.nW <= self.b * self.served)
@@ -124,34 +130,39 @@ class Pool:
         (self.D if writes else self.C).insert(0, f)
         return f, ('fault', victim, written)
 
+    def serve(self, page, writes, frames, store):
+        """One served call more: its number is that of the frame which then has the page."""
+        f, answer = self.bring(page, writes, frames, store)
+        self.served += 1
+        self.reference[f] = self.served
+        return f, answer
+
     def read(self, page, frames, store, out):
         self.examine(frames, store, page, len(out) == self.P)
-        f, answer = self.bring(page, False, frames, store)
-        self.served += 1
+        f, answer = self.serve(page, False, frames, store)
         out[:] = frames[f * self.P:f * self.P + self.P]
         return answer
 
     def write(self, page, start, data, frames, store):
         self.examine(frames, store, page, len(data) > 0 and start + len(data) <= self.P)
-        f, answer = self.bring(page, True, frames, store)
-        self.served += 1
+        f, answer = self.serve(page, True, frames, store)
         at = f * self.P + start
         frames[at:at + len(data)] = data
         return answer
 
     def flush(self, frames, store):
+        """The pages of D are written from last to first; then C has all frames of both lists, the latest reference first. No frame gets this call's number."""
         if not self.sound():
             raise Refused(2)
         self.sizes(frames, store)
         if self.served >= MOST_SERVED:
             raise Refused(6)
         P, n = self.P, len(self.D)
-        while self.D:
-            f = self.D.pop()
+        for f in reversed(self.D):
             q = self.page[f]
             store[q * P:q * P + P] = frames[f * P:f * P + P]
-            self.C.insert(0, f)
             self.nW += 1
+        self.C, self.D = sorted(self.C + self.D, key=lambda f: self.reference[f], reverse=True), []
         self.served += 1
         return n
 

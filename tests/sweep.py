@@ -8,12 +8,12 @@ import struct
 import sys
 import zlib
 
-from model import MOST_SERVED, UNIT, Pool, Refused, allowed
+from model import Pool, Refused, allowed
 
 LISTS = ('empty', 'clean', 'dirty')
 NUMBERS = ('b', 'P', 'N', 'r', 'w', 'empty_len', 'clean_len', 'dirty_len', 'target', 'served', 'nR', 'nW')
 MOST = 2 ** 64 - 1
-PACKED = struct.Struct('<12Q64s64s64s64H')
+PACKED = struct.Struct('<12Q64s64s64s64H64I')
 
 # An answer's kind: a refusal's is the scope's number.
 HIT, FAULT, FLUSH, TOTAL = 11, {None: 12, 'clean': 13, 'dirty': 14}, 15, 16
@@ -22,43 +22,31 @@ HIT, FAULT, FLUSH, TOTAL = 11, {None: 12, 'clean': 13, 'dirty': 14}, 15, 16
 # ---- a pool as numbers and places, sound or not
 
 class Raw:
-    """Every number of a pool, 64 places of each list and 64 pages."""
+    """Every number of a pool, 64 places of each list, 64 pages and 64 reference numbers."""
 
     def __init__(self, pool):
         self.b, self.P, self.N, self.r, self.w = pool.b, pool.P, pool.N, pool.r, pool.w
         self.target, self.served, self.nR, self.nW = pool.target, pool.served, pool.nR, pool.nW
-        self.empty, self.clean, self.dirty, self.page = (some + [0] * (64 - len(some)) for some in (pool.E, pool.C, pool.D, pool.page))
+        places = pool.E, pool.C, pool.D, pool.page, pool.reference
+        self.empty, self.clean, self.dirty, self.page, self.reference = (some + [0] * (64 - len(some)) for some in places)
         self.empty_len, self.clean_len, self.dirty_len = len(pool.E), len(pool.C), len(pool.D)
 
     def packed(self):
         return PACKED.pack(self.b, self.P, self.N, self.r, self.w, self.empty_len, self.clean_len, self.dirty_len, self.target, self.served,
-                           self.nR, self.nW, bytes(self.empty), bytes(self.clean), bytes(self.dirty), *self.page)
+                           self.nR, self.nW, bytes(self.empty), bytes(self.clean), bytes(self.dirty), *self.page, *self.reference)
 
     def sound(self):
-        """By 'What the pool holds'."""
-        if not allowed(self.b, self.P, self.N, self.r, self.w):
+        """0 in each place without meaning; of the rest by the model's own test."""
+        if not allowed(self.b, self.P, self.N, self.r, self.w) or max(self.empty_len, self.clean_len, self.dirty_len) > 64:
             return False
-        lengths = [self.empty_len, self.clean_len, self.dirty_len]
-        if max(lengths) > 64:
-            return False
-        E, C, D = (getattr(self, name)[:n] for name, n in zip(LISTS, lengths))
-        if any(any(getattr(self, name)[n:]) for name, n in zip(LISTS, lengths)):
-            return False
-        if sorted(E + C + D) != list(range(self.b)):
-            return False
-        full = [self.page[f] for f in C + D]
-        if len(set(full)) < len(full) or any(page >= self.N for page in full):
-            return False
-        if any(self.page[f] for f in range(64) if f not in C and f not in D):
-            return False
-        return (self.target <= self.b * UNIT and self.served <= MOST_SERVED
-                and self.nR <= self.served and self.nW <= self.b * self.served)
+        behind = [self.empty[self.empty_len:], self.clean[self.clean_len:], self.dirty[self.dirty_len:], self.page[self.b:], self.reference[self.b:]]
+        return not any(map(any, behind)) and self.pool().sound()
 
     def pool(self):
-        """The same pool for the model; only if it is sound."""
+        """The same pool for the model, sound or not; its numbers must be allowed."""
         pool = Pool(self.b, self.P, self.N, self.r, self.w)
         pool.E, pool.C, pool.D = self.empty[:self.empty_len], self.clean[:self.clean_len], self.dirty[:self.dirty_len]
-        pool.page = self.page[:self.b]
+        pool.page, pool.reference = self.page[:self.b], self.reference[:self.b]
         pool.target, pool.served, pool.nR, pool.nW = self.target, self.served, self.nR, self.nW
         return pool
 
@@ -201,23 +189,27 @@ def changed(old, chance, limit):
 
 
 def change(raw, seed):
-    """One number, one place of a list or of the pages is changed, or two places of a list trade their frames."""
+    """One number, one place of a list, of the pages or of the reference numbers is changed, or two places of a list trade their frames: of E a sound pool
+    stays sound, of C or D it does not, unless the two are one."""
     first, second = after(seed), after(seed, 2)
     which = first // 3
     if first % 3 == 0:
         name = NUMBERS[which % 12]
         setattr(raw, name, changed(getattr(raw, name), second, MOST + 1))
         return
-    where = which // 4
+    where = which // 5
     at = where // 2 % (raw.b + 1 if raw.b < 64 and where % 2 == 0 else 64)
-    if which % 4 == 3:
+    if which % 5 == 3:
         raw.page[at] = changed(raw.page[at], second, 65536)
         return
-    places = getattr(raw, LISTS[which % 4])
+    if which % 5 == 4:
+        raw.reference[at] = changed(raw.reference[at], second, 2 ** 32)
+        return
+    places = getattr(raw, LISTS[which % 5])
     if second // 16 % 4:
         places[at] = changed(places[at], second, 256)
         return
-    n = getattr(raw, LISTS[which % 4] + '_len')
+    n = getattr(raw, LISTS[which % 5] + '_len')
     if n:
         one, two = second // 64 % n, second // 4096 % n
         places[one], places[two] = places[two], places[one]

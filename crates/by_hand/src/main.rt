@@ -2,7 +2,6 @@
 // leave, and of traces that were closed, read and written once more. tests/recording.py says what must be printed.
 use calls::at_most;
 use calls::chance;
-use calls::digest;
 use model::Answer;
 use model::Flushing;
 use model::Refusal;

@@ -1,4 +1,4 @@
-// Pools in which one thing is changed: a number, a place of a list or a page. Most of them are broken.
+// Pools in which one thing is changed: a number, a place of a list, a page or a reference number. Most of them are broken.
 ghost use Prim.Native.Nat.{_<_};
 use crate::at_most;
 use crate::chance::below;
@@ -33,16 +33,25 @@ fn changed_size(old: usize, chance: usize) -> usize {
     changed(old as u64, chance) as usize
 }
 
-fn change_number(pool: Pool, field: usize, chance: usize) -> Pool {
+// One of the first five numbers: frames, bytes of a page, pages and costs.
+fn change_opened(pool: Pool, field: usize, chance: usize) -> Pool {
     let mut new = pool;
-    let reads = Reads(changed(pool.reads.0, chance));
-    let writes = Writes(changed(pool.writes.0, chance));
     match field {
         0 => new.frames = changed_size(pool.frames, chance),
         1 => new.page_bytes = changed_size(pool.page_bytes, chance),
         2 => new.pages = changed_size(pool.pages, chance),
         3 => new.read_cost = changed(pool.read_cost, chance),
-        4 => new.write_cost = changed(pool.write_cost, chance),
+        _ => new.write_cost = changed(pool.write_cost, chance),
+    }
+    new
+}
+
+// One of the others: lengths, the target and counts.
+fn change_kept(pool: Pool, field: usize, chance: usize) -> Pool {
+    let mut new = pool;
+    let reads = Reads(changed(pool.reads.0, chance));
+    let writes = Writes(changed(pool.writes.0, chance));
+    match field {
         5 => new.empty_len = changed_size(pool.empty_len, chance),
         6 => new.clean_len = changed_size(pool.clean_len, chance),
         7 => new.dirty_len = changed_size(pool.dirty_len, chance),
@@ -54,7 +63,14 @@ fn change_number(pool: Pool, field: usize, chance: usize) -> Pool {
     new
 }
 
-// Two places of a list trade their frames, which leaves a sound pool sound.
+fn change_number(pool: Pool, field: usize, chance: usize) -> Pool {
+    if field < 5 {
+        return change_opened(pool, field, chance);
+    }
+    change_kept(pool, field, chance)
+}
+
+// Two places of a list trade their frames: of E this leaves a sound pool sound, of C or D it does not, unless the two are one.
 fn swapped(list: [u8; PLACES], n: usize, chance: usize) -> [u8; PLACES] {
     let m = at_most(n, PLACES);
     if m == 0 {
@@ -88,7 +104,15 @@ fn change_page(page: [u16; PLACES], at: usize, chance: usize) -> [u16; PLACES]
     new
 }
 
-// One list, or the pages, is changed at a place.
+fn change_reference(reference: [u32; PLACES], at: usize, chance: usize) -> [u32; PLACES]
+    requires { ⌜ at < 64 ⌝ }
+{
+    let mut new = reference;
+    new[at] = (changed(reference[at] as u64, chance) % 4294967296) as u32;
+    new
+}
+
+// One list, the pages or the reference numbers are changed at a place.
 fn change_place(pool: Pool, which: usize, at: usize, chance: usize) -> Pool
     requires { ⌜ at < 64 ⌝ }
 {
@@ -97,6 +121,7 @@ fn change_place(pool: Pool, which: usize, at: usize, chance: usize) -> Pool
     let clean = pool.clean;
     let dirty = pool.dirty;
     let page = pool.page;
+    let reference = pool.reference;
     match which {
         0 => {
             let list = change_list(empty, pool.empty_len, at, chance);
@@ -110,9 +135,13 @@ fn change_place(pool: Pool, which: usize, at: usize, chance: usize) -> Pool
             let list = change_list(dirty, pool.dirty_len, at, chance);
             new.dirty = list;
         }
-        _ => {
+        3 => {
             let pages = change_page(page, at, chance);
             new.page = pages;
+        }
+        _ => {
+            let references = change_reference(reference, at, chance);
+            new.reference = references;
         }
     }
     new
@@ -137,6 +166,6 @@ pub fn changed_pool(pool: Pool, seed: usize) -> Pool {
     if first % 3 == 0 {
         return change_number(pool, first / 3 % 12, second);
     }
-    let at = place_by(pool.frames, first / 12);
-    change_place(pool, first / 3 % 4, at, second)
+    let at = place_by(pool.frames, first / 15);
+    change_place(pool, first / 3 % 5, at, second)
 }

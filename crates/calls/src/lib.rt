@@ -1,10 +1,9 @@
-// Calls as data, for a program that makes them in large numbers: a call and its answer as numbers; `chance` makes calls up, `change` spoils pools,
-// `turns` says which call a run makes next, and `digest` sums up what calls leave.
+// Calls as data, for a program that makes them in large numbers: a call and its answer as numbers; `chance` makes calls up, `change` spoils pools
+// and `turns` says which call a run makes next.
 ghost use Prim.Native.Nat.{_≤_};
 
 pub mod chance;
 pub mod change;
-pub mod digest;
 pub mod turns;
 
 use casa::Served;

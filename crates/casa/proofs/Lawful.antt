@@ -23,7 +23,7 @@ unfoldable pub pools-framed : Framed pools
 unfolding states-framed
 pools-framed =
     framed-pooled states states-framed Pool stateOf poolOf soundB Sound (λ p s. record { good = s .good; blank = s .blank })
-    (λ s w. sound-of s (w .good) (w .blank)) (λ s w. state-pool s (w .good .placed .paged))
+    (λ s w. sound-of s (w .good) (w .blank)) (λ s w. state-pool s (w .good .placed .paged) (w .good .numbered .each))
 
 unfoldable pub pools-lawful : Lawful pools
 pools-lawful = framed-lawful pools pools-framed

@@ -68,6 +68,7 @@ zeroPool =
       dirty = replicate places 0;
       «dirty_len» = 0;
       page = replicate places 0;
+      reference = replicate places 0;
       target = 0;
       served = 0;
       reads = record { 0 = 0 };

@@ -1,6 +1,6 @@
--- Laws of loops over a list, and of a test of every element.
---     drop-next, drop-take-next, drop-take-end    what a loop at place i has still to read: the element there and what is behind it, or nothing
+-- Laws of a test of every element.
 --     every-spoilt, every-kept, every-end    one turn of a loop that keeps in a flag whether all elements so far have passed
+--     both-spoilt-first, both-spoilt-second, both-kept, both-end    the same of two lists at once
 --     every-means, every-of    every element passes: place by place
 --     every-front, every-both    the first elements, and the others too
 --     tally-more, tally-same    one turn of a loop that counts how often q stands
@@ -9,29 +9,13 @@ use mathlib.Core.Path.{_≡_, refl, sym, _∙_}
 use mathlib.Core.Bool.{Bool, true, false, _&&_, and-true, and-false, and-eq-true-iff}
 use mathlib.Core.Logic.{_≢_}
 use mathlib.Core.List.{List, [], _∷_}
-use Prim.Native.Nat.{ℕ, zero, suc, _+_, _≤_, _<_}
+use Prim.Native.Nat.{ℕ, zero, suc, _+_, _<_}
 use native.Mathlib.Nat.{le-of-suc-le-suc, not-suc-le-zero}
-use native.Mathlib.Numerals.{add-one}
 use native.Mathlib.Omega.{arith}
-use lib.ListN.{length, getD, take, drop, length-take, drop-of-length-le}
-use lib.Seq.{drop-cons, getD-take}
+use lib.ListN.{length, getD, take, drop}
 use borrow.Author.Tests.{eq-eqb, ne-eqb}
 use Rattle.order.specs.Count.{count}
 use Rattle.checks.specs.Tests.{every}
-
--- ---- what is still to be read
-
-module _ (xs : List ℕ) where
-  pub drop-next : (i : ℕ) → i < length xs → drop i xs ≡ getD xs i 0 ∷ drop (i + 1) xs
-  drop-next i h = rw (add-one, drop-cons xs i 0)
-
-  pub drop-take-next : (n i : ℕ) → n ≤ length xs → i < n → drop i (take n xs) ≡ getD xs i 0 ∷ drop (i + 1) (take n xs)
-  drop-take-next n i l h =
-      let k : i < length (take n xs) = simp length-take (omega arith) in
-      rw (add-one, drop-cons (take n xs) i 0, getD-take)
-
-  pub drop-take-end : (n i : ℕ) → n ≤ i → drop i (take n xs) ≡ []
-  drop-take-end n i h = let k : length (take n xs) ≤ i = simp length-take (omega arith) in drop-of-length-le (take n xs) k
 
 -- ---- a test of every element
 
@@ -45,6 +29,22 @@ module _ (t : ℕ → Bool) where
 
     pub every-end : xs ≡ [] → (ok && every t xs) ≡ all → ok ≡ all
     every-end e k = sym (rw (e, and-true)) ∙ k
+
+  -- the same of two lists at once
+
+  module _ (xs ys : List ℕ) (ok all : Bool) (k : (ok && (every t xs && every t ys)) ≡ all) where
+    pub both-spoilt-first : {x : ℕ} {rest : List ℕ} → xs ≡ x ∷ rest → t x ≡ false → false ≡ all
+    both-spoilt-first e f = sym (rw (e, f, and-false)) ∙ k
+
+    pub both-spoilt-second : {y : ℕ} {more : List ℕ} → ys ≡ y ∷ more → t y ≡ false → false ≡ all
+    both-spoilt-second e f = sym (rw (e, f, and-false, and-false)) ∙ k
+
+    pub both-kept : {x y : ℕ} {rest more : List ℕ} → xs ≡ x ∷ rest → ys ≡ y ∷ more → t x ≡ true → t y ≡ true
+        → (ok && (every t rest && every t more)) ≡ all
+    both-kept e d f g = sym (rw (e, d, f, g)) ∙ k
+
+    pub both-end : xs ≡ [] → ys ≡ [] → ok ≡ all
+    both-end e d = sym (rw (e, d, and-true)) ∙ k
 
   pub every-means : (xs : List ℕ) → every t xs ≡ true → (i : ℕ) → i < length xs → t (getD xs i 0) ≡ true
   every-means [] e i h = absurd (not-suc-le-zero h)

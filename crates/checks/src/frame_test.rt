@@ -1,13 +1,14 @@
 // Every frame stands in exactly one list, and nothing else does.
 ghost use mathlib.Core.Path.{_≡_};
-ghost use Prim.Native.Nat.{_+_, _≤_, _<_};
+ghost use mathlib.Core.Bool.{_&&_};
+ghost use Prim.Native.Nat.{ℕ, _+_, _≤_, _<_};
 ghost use lib.ListN.{length, take};
 ghost use Rattle.order.specs.Places.{places};
-ghost use Rattle.checks.specs.Tests.{Decides, every, isSome, marked, FramesRight};
+ghost use Rattle.checks.specs.Tests.{Decides, every, isSome, isAtMost, marked, FramesRight};
 use order::PLACES;
 
 // A frame's number as a place.
-pub fn wide(x: u8) -> usize
+fn wide(x: u8) -> usize
     ensures { λ r. ⌜ (r ≡ x) × (r < 256) ⌝ }
 {
     x as usize
@@ -35,6 +36,31 @@ fn all_marked(marks: &[u8; 256], frames: usize) -> bool
     let mut i = 0;
     while i < frames {
         if marks[i] == 0 {
+            ok = false;
+        }
+        i += 1;
+    }
+    ok
+}
+
+fn larger(x: u8, y: u8) -> u8
+    ensures { λ r. ⌜ ((n : ℕ) → (r ≤ n → (x ≤ n) × (y ≤ n)) × (x ≤ n → y ≤ n → r ≤ n)) ⌝ }
+{
+    if x < y {
+        return y;
+    }
+    x
+}
+
+// Whether the number in every place of two lists is at most `top`. One loop for both is compiled in where it is called.
+pub fn both_low(c: &[u8; PLACES], d: &[u8; PLACES], top: u8) -> bool
+    requires { ⌜ (length (now c) ≡ places) × (length (now d) ≡ places) ⌝ }
+    ensures { λ r. ⌜ r ≡ (every (isAtMost top) (take places (now (c .entry))) && every (isAtMost top) (take places (now (d .entry)))) ⌝ }
+{
+    let mut ok = true;
+    let mut i = 0;
+    while i < PLACES {
+        if top < larger(c[i], d[i]) {
             ok = false;
         }
         i += 1;

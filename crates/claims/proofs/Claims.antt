@@ -16,7 +16,8 @@ use Rattle.little.specs.Little.{AllBelow}
 use Rattle.pages.specs.Pages.{pageOf}
 use Rattle.model.specs.Numbers.{Numbers, Limits, meant}
 use Rattle.model.specs.Words.{opened as saidOpened, refusalSays}
-use Rattle.model.specs.State.{opened as openedState}
+use Rattle.model.specs.State.{opened as openedState, pageIn, numberIn, resident}
+use Rattle.model.specs.References.{lastReference}
 use Rattle.model.specs.Target.{Adjustment, Exact, exactZero, exactAll, WithinUnits, Bounded, FurtherThan, aboveExact}
 use Rattle.model.specs.Refusals.{openVerdict, GivenBy}
 use Rattle.model.specs.Request.{locate}
@@ -43,13 +44,14 @@ use Rattle.recorder.specs.Words.{refusalSays as recorderSays}
 use Rattle.recorder.specs.Calls.{zeroRecorder, roomFor, beginRows, addRows, closeRows, beginVerdict, addVerdict, closeVerdict, beginAfter, addAfter, closeAfter}
 use Rattle.recorder.specs.Runs.{Tape, tapeOf, afterAdds, afterClose, kept, Reads, valueOf, recordsOf, shown, afterRecording, callsOf}
 use Rattle.recorder.specs.declared.Recorder.{Recorder}
-use Rattle.claims.specs.World.{Exactly, Broken, Says, TraceSays, opened, ClosesAs, Followed, adjusting, Asks, lastSaid, headerRows, checkRows}
+use Rattle.claims.specs.World.{Exactly, Broken, Says, TraceSays, opened, ClosesAs, Followed, adjusting, LatestFirst, Asks, lastSaid, headerRows, checkRows}
 use Rattle.claims.proofs.Opening as opening
 use Rattle.claims.proofs.Traces as traces
 use Rattle.claims.proofs.Refused as refusing
 use Rattle.claims.proofs.Recorded as recording
 use Rattle.claims.proofs.Runs.{run-sound, run-read, call-follows}
 use Rattle.claims.proofs.Drift.{run-near, run-bounded, victim-said}
+use Rattle.claims.proofs.References.{run-tracked, run-ordered}
 
 -- ---- demand 1: on any pool and any bytes, a call says a refusal exactly when the scope's condition is the first that holds, and then it changes nothing
 
@@ -123,6 +125,21 @@ module _ (n : Numbers) (accepted : openVerdict n ≡ Fine) (frames store : List 
   pub demand-2 : (page : ℕ) (out : List ℕ) → verdictOf pools used (read page out) ≡ Fine
       → left pools used (read page out) .out ≡ history pools (opened n frames store) cs (λ p. pageOf (meant n .P) p store) page
   demand-2 = run-read n accepted frames store cs
+
+  -- ---- either list is ordered by last reference, as the paper's section 4.1 wants it
+
+  abbrev pub lastReferenced : ℕ → ℕ
+  lastReferenced = lastReference pools (opened n frames store) cs
+
+  -- the number of a resident frame is that of the served call that last read or wrote its page
+  pub last-reference : (f : ℕ) → 1 ≤ resident (stateOf (used .state) .lists) f
+      → numberIn (stateOf (used .state)) f ≡ lastReferenced (pageIn (stateOf (used .state)) f)
+  last-reference = run-tracked n accepted frames store cs
+
+  -- and down C and down D each page was read or written before the one in front of it
+  pub latest-first : LatestFirst lastReferenced (stateOf (used .state)) (stateOf (used .state) .lists .C)
+      × LatestFirst lastReferenced (stateOf (used .state)) (stateOf (used .state) .lists .D)
+  latest-first = run-ordered n accepted frames store cs
 
   -- ---- demand 3: after k adjustments the target is within k/65,536 of a page of the exact target, which is held between 0 and b
 

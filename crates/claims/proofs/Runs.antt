@@ -84,7 +84,9 @@ run-sound = run-good pools pools-lawful
 module _ (n : Numbers) (accepted : openVerdict n ≡ Fine) (frames store : List ℕ) where
   pub open-state : stateOf (openAfter n .pool) ≡ openedState (meant n)
   unfolding openAfter
-  open-state = rw accepted (state-pool (openedState (meant n)) (opened-good (meant n) (open-limits n accepted) .placed .paged))
+  open-state =
+      let g = opened-good (meant n) (open-limits n accepted) in
+      rw accepted (state-pool (openedState (meant n)) (g .placed .paged) (g .numbered .each))
 
   -- over memory of the right sizes every page is as the store has it
   pub open-right : length frames ≡ meant n .b * meant n .P → length store ≡ meant n .N * meant n .P
@@ -130,10 +132,10 @@ module _ (x : World Pool) (s : Sound (x .state)) where
   call-follows (read q out) e =
       let a = read-clear pools x q out e in
       let t = request-stepped (stateOf (x .state)) (record { good = s .good; blank = s .blank }) q (a .2) (a .1 .more) Read (costsIn pools x) in
-      rw e ((state-pool _ (t .good .good .placed .paged), refl), refl, refl)
+      rw e ((state-pool _ (t .good .good .placed .paged) (t .good .good .numbered .each), refl), refl, refl)
   call-follows (write q start bytes) e =
       let a = write-clear pools x q start bytes e in
       let t = request-stepped (stateOf (x .state)) (record { good = s .good; blank = s .blank }) q (a .2) (a .1 .more) Write (costsIn pools x) in
-      rw e ((state-pool _ (t .good .good .placed .paged), refl), refl)
-  call-follows flush e = rw e (state-pool (flushed (stateOf (x .state))) (s .good .placed .paged), refl, refl)
+      rw e ((state-pool _ (t .good .good .placed .paged) (t .good .good .numbered .each), refl), refl)
+  call-follows flush e = rw e (state-pool (flushed (stateOf (x .state))) (s .good .placed .paged) (s .good .numbered .each), refl, refl)
   call-follows total e = rw e (refl, refl, refl)

@@ -1,18 +1,18 @@
 -- What the demands speak of, beside the calls: what is said, the world after an accepted open, what Algorithm 1 makes of a call, the adjustments of a run,
--- the pages at the ends of the lists, and the rows of a trace.
+-- lists by last reference, the pages at the ends of the lists, and the rows of a trace.
 -- Assumes nothing.
 use mathlib.Core.Path.{_≡_}
 use mathlib.Core.Bool.{Bool, not}
 use mathlib.Core.List.{List, [], _∷_, _++_}
-use Prim.Native.Nat.{ℕ, _-_}
+use Prim.Native.Nat.{ℕ, _-_, _<_}
 use lib.Dec.{eqb, ltb}
-use lib.ListN.{length, drop}
+use lib.ListN.{length, getD, drop}
 use Rattle.pages.specs.Pages.{pageOf}
 use Rattle.model.specs.Numbers.{Numbers}
 use Rattle.model.specs.Words.{Said, flushed as saidFlushed, total as saidTotal, numberOf, namedBy, refusalSays, answerSays, faultSays}
 use Rattle.model.specs.Target.{Costs, Adjustment}
 use Rattle.model.specs.Counts.{totalCost}
-use Rattle.model.specs.State.{State}
+use Rattle.model.specs.State.{State, pageIn}
 use Rattle.model.specs.Request.{victimBy, taken, request, flushed, adjustmentsOf}
 use Rattle.model.specs.Refusals.{Row}
 use Rattle.model.specs.Bytes.{Memory, brought, overlaid, flushedBytes}
@@ -84,6 +84,11 @@ adjusting x (read q out) = adjustmentsOf Read (costsIn pools x) (stateOf (x .sta
 adjusting x (write q start bytes) = adjustmentsOf Write (costsIn pools x) (stateOf (x .state)) q
 adjusting x flush = []
 adjusting x total = []
+
+-- ---- the pages of a list of frames, latest reference first, by what `last` says of each page
+
+abbrev pub LatestFirst : (ℕ → ℕ) → State → List ℕ → Type 0
+LatestFirst last s fs = (i j : ℕ) → i < j → j < length fs → last (pageIn s (getD fs j 0)) < last (pageIn s (getD fs i 0))
 
 -- ---- a read or a write of page q
 

@@ -1,11 +1,7 @@
 // Runs the scope's worked examples that are not proved in its table, on both sides of each edge, and prints what came out.
 ghost use Prim.Native.Nat.{_≤_};
-ghost use lib.ListN.{length};
 use casa::Served;
-use model::Answer;
-use model::Flushing;
 use model::Opening;
-use model::Victim;
 use pool::Pool;
 use tell::also_refused;
 use tell::end;
@@ -16,37 +12,6 @@ use trace::Next;
 use trace::Trailer;
 
 const FAR: usize = 18446744073709551615;
-
-// ---- answers
-
-fn tell_victim(victim: Victim) {
-    match victim {
-        Victim::None => {}
-        Victim::Clean(page) => {
-            word(b" clean");
-            number(page as u64);
-        }
-        Victim::Dirty(page) => {
-            word(b" dirty");
-            number(page as u64);
-        }
-    }
-}
-
-fn tell_answer(answer: Answer) {
-    tell::result(answer);
-    tell_victim(tell::victim_of(answer));
-}
-
-fn tell_flush(answer: Flushing) {
-    match answer {
-        Flushing::Refused(why) => also_refused(why),
-        Flushing::Wrote(pages) => {
-            word(b" wrote");
-            number(pages as u64);
-        }
-    }
-}
 
 fn tell_total(pool: Pool) {
     word(b"total");
@@ -99,7 +64,7 @@ fn openings() {
 // The end of a call's line, and the pool that the next call takes.
 fn tell_served(served: Served) -> Pool {
     let answer = served.answer;
-    tell_answer(answer);
+    tell::answer(answer);
     end();
     served.pool
 }
@@ -132,7 +97,7 @@ fn flush(pool: Pool, frames: &[u8], store: &mut [u8]) -> Pool {
     let flushed = casa::flush(pool, frames, store);
     let answer = flushed.answer;
     let next = flushed.pool;
-    tell_flush(answer);
+    tell::flush(answer);
     end();
     next
 }
@@ -229,160 +194,53 @@ fn last_calls() {
     tell_total(d);
 }
 
-// ---- every set of refusals at once: the lowest number is given, and no byte changes
-
-// Whether bit k of a set of refusals is on: bit 0 stands for refusal 2, up to bit 4 for refusal 6.
-fn has(set: usize, bit: usize) -> bool
-    requires { ⌜ 1 ≤ bit ⌝ }
-{
-    set / bit % 2 == 1
-}
-
-fn sum(bytes: &[u8]) -> u64
-    requires { ⌜ length (now bytes) ≤ 128 ⌝ }
-{
-    let mut n: u64 = 0;
-    let mut i = 0;
-    while i < bytes.len() {
-        n += bytes[i] as u64;
-        i += 1;
-    }
-    n
-}
-
-// A pool with what a set asks: broken, or with every call served.
-fn pool_of(set: usize) -> Pool {
+// Page 0 is read once more after page 1 was written, so it is the later one: behind the flush page 1 is the first victim.
+fn order_after_flush() {
+    let mut frames = [0u8; 32];
+    let mut store = [0u8; 128];
+    let mut out = [0u8; 16];
+    let bytes = [7u8];
     let opened = casa::open(2, 16, 8, 1, 3);
-    let mut pool = opened.pool;
-    if has(set, 1) {
-        pool.target = 131073;
-    }
-    if has(set, 16) {
-        pool.served = 1000000000;
-    }
-    pool
+    let first = read(opened.pool, 0, &mut frames, &mut store, &mut out);
+    let second = write(first, 1, 0, &bytes, &mut frames, &mut store);
+    let again = read(second, 0, &mut frames, &mut store, &mut out);
+    let saved = flush(again, &frames, &mut store);
+    let third = read(saved, 2, &mut frames, &mut store, &mut out);
+    let fourth = read(third, 3, &mut frames, &mut store, &mut out);
+    tell_counts(fourth);
 }
 
-fn frames_of(set: usize) -> usize
-    ensures { λ r. ⌜ r ≤ 32 ⌝ }
-{
-    if has(set, 2) {
-        return 31;
-    }
-    32
-}
-
-fn page_of(set: usize) -> usize {
-    if has(set, 4) {
-        return 8;
-    }
-    0
-}
-
-fn length_of(set: usize) -> usize
-    ensures { λ r. ⌜ r ≤ 17 ⌝ }
-{
-    if has(set, 8) {
-        return 17;
-    }
-    16
-}
-
-// The line of a set starts with the call and the set.
-fn tell_set(what: &[u8], set: usize) {
-    word(what);
-    number(set as u64);
-}
-
-// What the bytes add up to: a refused call leaves them all.
-fn tell_sums(frames: &[u8; 32], store: &[u8; 128]) {
-    word(b" bytes");
-    number(sum(frames));
-    number(sum(store));
-}
-
-fn read_as(set: usize, frames: &mut [u8], store: &mut [u8], out: &mut [u8]) -> Answer
-    requires { ⌜ (32 ≤ length (now frames)) × (17 ≤ length (now out)) ⌝ }
-{
-    let f = frames_of(set);
-    let n = length_of(set);
-    let served = casa::read_page(
-        pool_of(set),
-        page_of(set),
-        &mut frames[0..f],
-        store,
-        &mut out[0..n],
-    );
-    served.answer
-}
-
-fn read_set(set: usize) {
-    let mut frames = [1u8; 32];
-    let mut store = [2u8; 128];
-    let mut out = [3u8; 17];
-    let answer = read_as(set, &mut frames, &mut store, &mut out);
-    tell_set(b"read set", set);
-    tell_answer(answer);
-    tell_sums(&frames, &store);
-    number(sum(&out));
+// A pool with other numbers in frames 0 and 1: the total is refused 2 where they are wrong.
+fn try_numbers(pool: Pool, in_0: u32, in_1: u32) {
+    let mut reference = pool.reference;
+    reference[0] = in_0;
+    reference[1] = in_1;
+    let mut numbered = pool;
+    numbered.reference = reference;
+    word(b"numbers");
+    number(in_0 as u64);
+    number(in_1 as u64);
+    tell::total(casa::total(numbered));
     end();
 }
 
-fn write_as(set: usize, frames: &mut [u8], store: &mut [u8]) -> Answer
-    requires { ⌜ 32 ≤ length (now frames) ⌝ }
-{
-    let bytes = [3u8; 17];
-    let f = frames_of(set);
-    let n = length_of(set);
-    let served = casa::write_page(
-        pool_of(set),
-        page_of(set),
-        0,
-        &bytes[0..n],
-        &mut frames[0..f],
-        store,
-    );
-    served.answer
-}
-
-fn write_set(set: usize) {
-    let mut frames = [1u8; 32];
-    let mut store = [2u8; 128];
-    let answer = write_as(set, &mut frames, &mut store);
-    tell_set(b"write set", set);
-    tell_answer(answer);
-    tell_sums(&frames, &store);
-    end();
-}
-
-fn flush_as(set: usize, frames: &[u8], store: &mut [u8]) -> Flushing
-    requires { ⌜ 32 ≤ length (now frames) ⌝ }
-{
-    let f = frames_of(set);
-    let flushed = casa::flush(pool_of(set), &frames[0..f], store);
-    flushed.answer
-}
-
-fn flush_set(set: usize) {
-    let frames = [1u8; 32];
-    let mut store = [2u8; 128];
-    let answer = flush_as(set, &frames, &mut store);
-    tell_set(b"flush set", set);
-    tell_flush(answer);
-    tell_sums(&frames, &store);
-    end();
-}
-
-fn sets() {
-    let mut set = 0;
-    while set < 32 {
-        read_set(set);
-        write_set(set);
-        flush_set(set);
-        let pool = pool_of(set);
-        tell_total(pool);
-        set += 1;
-    }
+// One page in C, and an empty frame; then one page in C and one in D, with two calls served.
+fn numbers_by_hand() {
+    let mut frames = [0u8; 32];
+    let mut store = [0u8; 128];
+    let mut out = [0u8; 16];
+    let bytes = [7u8];
+    let opened = casa::open(2, 16, 8, 1, 3);
+    let one = read(opened.pool, 0, &mut frames, &mut store, &mut out);
+    try_numbers(one, 1, 0);
+    try_numbers(one, 1, 1);
+    try_numbers(one, 2, 0);
+    let two = write(one, 1, 0, &bytes, &mut frames, &mut store);
+    try_numbers(two, 1, 2);
+    try_numbers(two, 2, 1);
+    try_numbers(two, 2, 2);
+    try_numbers(two, 0, 2);
+    try_numbers(two, 1, 3);
 }
 
 // ---- traces
@@ -444,6 +302,7 @@ fn main() {
     one_frame();
     pages_and_stretches();
     last_calls();
-    sets();
+    order_after_flush();
+    numbers_by_hand();
     traces();
 }

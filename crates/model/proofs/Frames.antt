@@ -168,6 +168,18 @@ module _ (n : Numbers) (x : Frames) (p : Placed n x) where
     step-frame Hit t = frame-below f (omega (arith, t .here))
     step-frame (Fault v) t = frame-below f (t .stands)
 
+    -- its frame has the page then, and every other frame is as it was
+    pub step-here : (a : Answer) → Step op q f a x y → (1 ≤ y .resident f) × (pageAt y f ≡ q)
+    step-here (Refused e) t = absurd t
+    step-here Hit t = (omega (arith, t .here, t .resident-same f), page-at f (t .page-same) ∙ t .has)
+    step-here (Fault v) t = (omega (arith, t .here), page-here y op q f v t)
+
+    pub step-off : (a : Answer) → Step op q f a x y → (h : ℕ) → f ≢ h
+        → (y .resident h ≡ x .resident h) × (y .unsaved h ≡ x .unsaved h) × (pageAt y h ≡ pageAt x h)
+    step-off (Refused e) t h m = absurd t
+    step-off Hit t h m = hit-off y op q f t h m
+    step-off (Fault v) t h m = off y op q f v t h m
+
     pub step-victim : (a : Answer) → Step op q f a x y → VictimBelow (n .N) a
     step-victim (Refused e) t = absurd t
     step-victim Hit t = tt

@@ -13,6 +13,7 @@ use Rattle.model.specs.Frames.{Blank}
 use Rattle.model.specs.State.{State, opened, standing, framesOf}
 use Rattle.model.specs.Good.{Good}
 use Rattle.model.proofs.Frames.{frame-below, frame-once, placed-length}
+use Rattle.model.proofs.Numbered.{opened-numbered}
 
 module _ (s : State) (g : Good s) where
   -- what stands in a list is a frame
@@ -50,6 +51,7 @@ opened-good n l =
         inside = λ f h. absurd (omega arith);
         apart = λ f g h k e. absurd (omega arith);
       };
+      numbered = opened-numbered (n .b);
       target-high = omega arith;
       counts = record { served-high = omega arith; reads-high = omega arith; writes-high = omega arith };
     }

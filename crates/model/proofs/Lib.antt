@@ -8,8 +8,10 @@ pub mod LastWritten
 pub mod Exactly
 pub mod Frames
 pub mod Framed
+pub mod Numbered
 pub mod Good
 pub mod Steps
+pub mod References
 pub mod Drift
 pub mod Adjust
 pub mod Table

@@ -1,10 +1,11 @@
 -- CASA's requests and flushes are steps on frames, and keep a state good. A hit moves a frame within C and D, so each frame is resident as often as before and
--- pages stay where they are. On a fault the chosen frame leaves its list and comes back to C or D with a page that no frame had. All by counts.
+-- pages stay where they are. On a fault the chosen frame leaves its list and comes back to C or D with a page that no frame had. All by counts. The frame of a request
+-- has the largest number and goes to a front, and a merge keeps the order, so numbers still fall.
 --     locate-right, chosen-in    a page is where it is found, and the chosen place is one of its list
 --     request-stepped, flush-stepped    what a request and a flush do to frames, and that the state stays good
 --     states-framed    so CASA's states are framed
 -- Assumes nothing.
-use mathlib.Core.Path.{_≡_, refl, sym}
+use mathlib.Core.Path.{_≡_, refl, sym, subst}
 use mathlib.Core.Bool.{Bool, true, false, cond as if-else}
 use mathlib.Core.Logic.{_≢_, dite}
 use mathlib.Core.List.{List, _∷_}
@@ -12,7 +13,7 @@ use Prim.Native.Nat.{ℕ, zero, suc, _+_, _-_, _*_, _≤_, _<_}
 use native.Mathlib.Nat.{min-le-right}
 use native.Mathlib.Decide.{decLt}
 use native.Mathlib.Omega.{arith}
-use lib.ListN.{length, getD}
+use lib.ListN.{length, getD, set}
 use lib.Dec.{ltb}
 use borrow.Author.Tests.{ltb-true, ltb-false}
 use Rattle.order.specs.Lists.{removeAt, moveToFront}
@@ -21,14 +22,16 @@ use Rattle.order.specs.Find.{findFrom}
 use Rattle.order.specs.declared.Found.{Found}
 use Rattle.order.specs.declared.Found.the-variants.{At, Nowhere}
 use Rattle.order.proofs.Search.{findFrom-below, findFrom-at, findFrom-none}
-use Rattle.order.proofs.Count.{bit-same, bit-other, count-append, count-removeAt, count-moveToFront, count-other, count-here}
-use Rattle.model.specs.Numbers.{unit, mostServed}
+use Rattle.order.specs.Merge.{Ordered}
+use Rattle.order.proofs.Count.{bit-same, bit-other, count-removeAt, count-moveToFront, count-other, count-here}
+use Rattle.order.proofs.Merged.{count-merged, ordered-swap, ordered-removeAt}
+use Rattle.model.specs.Numbers.{Numbers, unit, mostServed}
 use Rattle.model.specs.Target.{Costs, up, down, adjust, aboveTarget}
 use Rattle.model.specs.Counts.{countedBy}
 use Rattle.model.specs.Frames.{Blank, HitMark, VictimOf, Step}
 use Rattle.model.specs.Policy.{Outcome}
-use Rattle.model.specs.State.{State, withLists, withTarget, pageIn, resident, framesOf}
-use Rattle.model.specs.Good.{Good}
+use Rattle.model.specs.State.{State, withLists, withTarget, pageIn, resident, standing, framesOf}
+use Rattle.model.specs.Good.{Numbered, Good}
 use Rattle.model.specs.Request.{placeBy, locate, chosenBy, ChoiceIn, chosen, taken, writesOf}
 use Rattle.model.specs.Request.{hit, faultInto, faulted, requestAt, request, flushed, states}
 use Rattle.model.specs.declared.Op.{Op}
@@ -41,7 +44,8 @@ use Rattle.model.specs.declared.Victim.{Victim}
 use Rattle.model.specs.declared.Victim.the-variants.{None, Clean, Dirty}
 use Rattle.model.proofs.Frames.{placed-same, step-placed, step-blank, counts-in, Leaves, leaves-step}
 use Rattle.model.proofs.Framed.{Stepped, FlushStepped, Framed}
-use Rattle.model.proofs.Good.{standing-once, lengths-sum}
+use Rattle.model.proofs.Good.{standing-below, standing-once, lengths-sum}
+use Rattle.model.proofs.Numbered.{clean-latest, dirty-latest, numbered-latest, numbered-flushed}
 
 -- ---- where a page is found
 
@@ -88,11 +92,12 @@ abbrev CasaStepped : Op → State → ℕ → Outcome State → Type 0
 CasaStepped op s q o = Stepped states Whole framesOf op s q o
 
 module _ (s : State) (w : Whole s) (q : ℕ) (q-inside : q < s .numbers .N) (more : s .counts .served < mostServed) where
-  -- a step that keeps the numbers and holds target and counts within their limits leaves a good state
+  -- a step that keeps b to w, leaves right reference numbers and holds target and counts within their limits leaves a good state
   after-step : (op : Op) (o : Outcome State) (reads writes : ℕ) → Step op q (o .frame) (o .answer) (framesOf s) (framesOf (o .state))
-      → s .numbers ≡ o .state .numbers → o .state .target ≤ s .numbers .b * unit
+      → s .numbers ≡ o .state .numbers → Numbered (s .numbers .b) (o .state .counts .served) (o .state .reference) (o .state .lists)
+      → o .state .target ≤ s .numbers .b * unit
       → countedBy reads writes (s .counts) ≡ o .state .counts → reads ≤ 1 → writes ≤ s .numbers .b → CasaStepped op s q o
-  after-step op o reads writes t e top c one few =
+  after-step op o reads writes t e n top c one few =
       let g = w .good in
       record {
         step = t;
@@ -101,6 +106,7 @@ module _ (s : State) (w : Whole s) (q : ℕ) (q-inside : q < s .numbers .N) (mor
           good = record {
             limits = rw e at (g .limits);
             placed = rw e at (step-placed (s .numbers) (framesOf s) (g .placed) (framesOf (o .state)) op q (o .frame) (o .answer) t q-inside);
+            numbered = subst (λ (m : Numbers). Numbered (m .b) (o .state .counts .served) (o .state .reference) (o .state .lists)) e n;
             target-high = rw e at top;
             counts = rw (e, c) at (counts-in (s .numbers) (s .counts) (g .counts) more reads writes one few);
           };
@@ -111,23 +117,47 @@ module _ (s : State) (w : Whole s) (q : ℕ) (q-inside : q < s .numbers .N) (mor
   -- ---- a hit on frame f: C and D have the same frames as before, and the target is τ
 
   hit-stepped : (op : Op) (C D : List ℕ) (τ f : ℕ) → 1 ≤ resident (s .lists) f → pageIn s f ≡ q → ((h : ℕ) → count h C + count h D ≡ resident (s .lists) h)
-      → HitMark op (count f (s .lists .D)) (count f D) → ((h : ℕ) → f ≢ h → count h D ≡ count h (s .lists .D)) → τ ≤ s .numbers .b * unit
+      → HitMark op (count f (s .lists .D)) (count f D) → ((h : ℕ) → f ≢ h → count h D ≡ count h (s .lists .D))
+      → Ordered (set (s .reference) f (s .counts .served + 1)) (s .counts .served + 1) C D → τ ≤ s .numbers .b * unit
       → CasaStepped op s q (hit f (withTarget τ (withLists (s .lists .E) C D s)))
-  hit-stepped op C D τ f here has same mark off top =
+  hit-stepped op C D τ f here has same mark off ordered top =
       after-step op (hit f (withTarget τ (withLists (s .lists .E) C D s))) 0 0
       (record { here = here; has = has; empty-same = λ h. refl; resident-same = same; page-same = refl; mark = mark; mark-off = off })
-      refl top refl (omega arith) (omega arith)
+      refl
+      (numbered-latest (w .good .numbered) (s .lists .E) C D f
+      (λ h c. (λ e. let k : 1 ≤ count f (s .lists .E) = rw e c in omega (arith, standing-once s (w .good) f), c)) ordered)
+      top refl (omega arith) (omega arith)
+
+  -- a frame that stands in a list has a number
+  numbered-frame : (f : ℕ) → 1 ≤ standing (s .lists) f → f < length (s .reference)
+  numbered-frame f h = omega (arith, w .good .numbered .each, standing-below s (w .good) f h)
 
   -- ---- a fault: frame f leaves its list, which makes the lists E, C and D, and comes back to C or D
 
   module _ (away : (f : ℕ) → 1 ≤ resident (s .lists) f → pageIn s f ≢ q) where
     module _ (E C D : List ℕ) (f : ℕ) (v : Victim) (l : Leaves (framesOf s) (λ h. count h E) (λ h. count h C + count h D) f)
         (dirty-off : (h : ℕ) → f ≢ h → count h D ≡ count h (s .lists .D))
-        (victim : VictimOf v (resident (s .lists) f) (count f (s .lists .D)) (pageIn s f)) where
+        (victim : VictimOf v (resident (s .lists) f) (count f (s .lists .D)) (pageIn s f))
+        (ordered : Ordered (s .reference) (s .counts .served) C D) where
       few : (v : Victim) → writesOf v ≤ s .numbers .b
       few None = omega arith
       few (Clean p) = omega arith
       few (Dirty p) = omega (arith, w .good .limits .b-low)
+
+      -- it stands in no list between
+      out : count f E + (count f C + count f D) ≡ 0
+      out = omega (arith, l .out f, standing-once s (w .good) f, bit-same f)
+
+      inside : f < length (s .reference)
+      inside = numbered-frame f (omega (arith, l .out f, bit-same f))
+
+      numbered : (C′ D′ : List ℕ) → Ordered (set (s .reference) f (s .counts .served + 1)) (s .counts .served + 1) C′ D′
+          → Numbered (s .numbers .b) (s .counts .served + 1) (set (s .reference) f (s .counts .served + 1)) (record { E = E; C = C′; D = D′ })
+      numbered C′ D′ =
+          numbered-latest (w .good .numbered) E C′ D′ f
+          (λ h c.
+          let n : f ≢ h = λ e. let k : 1 ≤ count f E = rw e c in omega (arith, out) in
+          (n, omega (arith, l .off h n .0)))
 
       abbrev into : Op → Outcome State
       into op = faultInto op q (record { state = withLists E C D s; frame = f; victim = v })
@@ -136,13 +166,13 @@ module _ (s : State) (w : Whole s) (q : ℕ) (q-inside : q < s .numbers .N) (mor
       back-stepped Read =
           after-step Read (into Read) 1 (writesOf v)
           (leaves-step (s .numbers) (framesOf s) (w .good .placed) (framesOf (into Read .state)) Read q f v _ l
-          (λ h. omega arith) away victim refl (omega (arith, l .out f, standing-once s (w .good) f, bit-same f)) dirty-off)
-          refl (w .good .target-high) refl (omega arith) (few v)
+          (λ h. omega arith) away victim refl (omega (arith, out)) dirty-off)
+          refl (numbered (f ∷ C) D (clean-latest ordered f inside (omega (arith, out)) (omega (arith, out)))) (w .good .target-high) refl (omega arith) (few v)
       back-stepped Write =
           after-step Write (into Write) 1 (writesOf v)
           (leaves-step (s .numbers) (framesOf s) (w .good .placed) (framesOf (into Write .state)) Write q f v _ l
           (λ h. omega arith) away victim refl (omega (arith, bit-same f)) (λ h n. omega (arith, dirty-off h n, bit-other f h n)))
-          refl (w .good .target-high) refl (omega arith) (few v)
+          refl (numbered C (f ∷ D) (dirty-latest ordered f inside (omega (arith, out)) (omega (arith, out)))) (w .good .target-high) refl (omega arith) (few v)
 
     taken-stepped : (op : Op) (k : Choice) → ChoiceIn (length (s .lists .E)) (length (s .lists .C)) (length (s .lists .D)) k
         → CasaStepped op s q (faultInto op q (taken s k))
@@ -150,19 +180,19 @@ module _ (s : State) (w : Whole s) (q : ℕ) (q-inside : q < s .numbers .N) (mor
         let f : ℕ = getD (s .lists .E) i 0 in
         back-stepped (removeAt i (s .lists .E)) (s .lists .C) (s .lists .D) f None
         (record { out = λ g. omega (arith, count-removeAt g (s .lists .E) i h); off = λ g n. (count-other g (s .lists .E) i h n, refl) })
-        (λ g n. refl) (omega (arith, count-here (s .lists .E) i h, standing-once s (w .good) f)) op
+        (λ g n. refl) (omega (arith, count-here (s .lists .E) i h, standing-once s (w .good) f)) (w .good .numbered .ordered) op
     taken-stepped op (OfClean i) h =
         let f : ℕ = getD (s .lists .C) i 0 in
         let c = count-here (s .lists .C) i h in
         back-stepped (s .lists .E) (removeAt i (s .lists .C)) (s .lists .D) f (Clean (pageIn s f))
         (record { out = λ g. omega (arith, count-removeAt g (s .lists .C) i h); off = λ g n. (refl, omega (arith, count-other g (s .lists .C) i h n)) })
-        (λ g n. refl) (omega arith, omega (arith, standing-once s (w .good) f), refl) op
+        (λ g n. refl) (omega arith, omega (arith, standing-once s (w .good) f), refl) (ordered-removeAt (w .good .numbered .ordered) i h) op
     taken-stepped op (OfDirty i) h =
         let f : ℕ = getD (s .lists .D) i 0 in
         let c = count-here (s .lists .D) i h in
         back-stepped (s .lists .E) (s .lists .C) (removeAt i (s .lists .D)) f (Dirty (pageIn s f))
         (record { out = λ g. omega (arith, count-removeAt g (s .lists .D) i h); off = λ g n. (refl, omega (arith, count-other g (s .lists .D) i h n)) })
-        (λ g n. count-other g (s .lists .D) i h n) (omega arith, refl) op
+        (λ g n. count-other g (s .lists .D) i h n) (omega arith, refl) (ordered-swap (ordered-removeAt (ordered-swap (w .good .numbered .ordered)) i h)) op
 
   -- ---- any request
 
@@ -175,30 +205,57 @@ module _ (s : State) (w : Whole s) (q : ℕ) (q-inside : q < s .numbers .N) (mor
           (chosen-in (length (s .lists .E)) (length (s .lists .C)) (length (s .lists .D)) (s .target)
           (omega (arith, lengths-sum s (w .good), w .good .limits .b-low)))
 
-      go : (o : Op) (x : Place) → PlaceRight s q x → CasaStepped o s q (requestAt o k s q x)
+      o : Ordered (s .reference) (s .counts .served) (s .lists .C) (s .lists .D)
+      o = w .good .numbered .ordered
+
+      -- the frame at a place of C stands there alone, and so does that of D
+      once-clean : (i : ℕ) → i < length (s .lists .C)
+          → (count (getD (s .lists .C) i 0) (removeAt i (s .lists .C)) ≡ 0) × (count (getD (s .lists .C) i 0) (s .lists .D) ≡ 0)
+      once-clean i h =
+          let f : ℕ = getD (s .lists .C) i 0 in
+          let c = count-removeAt f (s .lists .C) i h in
+          (omega (arith, c, bit-same f, standing-once s (w .good) f), omega (arith, c, bit-same f, standing-once s (w .good) f))
+
+      once-dirty : (i : ℕ) → i < length (s .lists .D)
+          → (count (getD (s .lists .D) i 0) (removeAt i (s .lists .D)) ≡ 0) × (count (getD (s .lists .D) i 0) (s .lists .C) ≡ 0)
+      once-dirty i h =
+          let f : ℕ = getD (s .lists .D) i 0 in
+          let c = count-removeAt f (s .lists .D) i h in
+          (omega (arith, c, bit-same f, standing-once s (w .good) f), omega (arith, c, bit-same f, standing-once s (w .good) f))
+
+      -- a frame of D goes to its front
+      dirty-front : (i : ℕ) → i < length (s .lists .D)
+          → Ordered (set (s .reference) (getD (s .lists .D) i 0) (s .counts .served + 1)) (s .counts .served + 1) (s .lists .C) (moveToFront i (s .lists .D))
+      dirty-front i h =
+          let f : ℕ = getD (s .lists .D) i 0 in
+          let c = count-here (s .lists .D) i h in
+          dirty-latest (ordered-swap (ordered-removeAt (ordered-swap o) i h)) f (numbered-frame f (omega arith)) (once-dirty i h .1) (once-dirty i h .0)
+
+      go : (op : Op) (x : Place) → PlaceRight s q x → CasaStepped op s q (requestAt op k s q x)
       go Read (InClean i) p =
           let c = count-here (s .lists .C) i (p .0) in
           hit-stepped Read (moveToFront i (s .lists .C)) (s .lists .D) (adjust (s .numbers .b) (s .target) (up k (length (s .lists .C)) (length (s .lists .D))))
-          _ (omega arith) (p .1) (λ h. omega (arith, count-moveToFront h (s .lists .C) i (p .0))) refl (λ h n. refl) (min-le-right _ _)
+          _ (omega arith) (p .1) (λ h. omega (arith, count-moveToFront h (s .lists .C) i (p .0))) refl (λ h n. refl)
+          (clean-latest (ordered-removeAt o i (p .0)) _ (numbered-frame _ (omega arith)) (once-clean i (p .0) .0) (once-clean i (p .0) .1)) (min-le-right _ _)
       go Write (InClean i) p =
           let f : ℕ = getD (s .lists .C) i 0 in
           let c = count-here (s .lists .C) i (p .0) in
           hit-stepped Write (removeAt i (s .lists .C)) (f ∷ s .lists .D) (s .target) f
           (omega arith) (p .1) (λ h. omega (arith, count-removeAt h (s .lists .C) i (p .0))) (omega (arith, bit-same f)) (λ h n. omega (arith, bit-other f h n))
-          (w .good .target-high)
+          (dirty-latest (ordered-removeAt o i (p .0)) f (numbered-frame f (omega arith)) (once-clean i (p .0) .0) (once-clean i (p .0) .1)) (w .good .target-high)
       go Write (InDirty i) p =
           let f : ℕ = getD (s .lists .D) i 0 in
           let c = count-here (s .lists .D) i (p .0) in
           hit-stepped Write (s .lists .C) (moveToFront i (s .lists .D))
           (adjust (s .numbers .b) (s .target) (down k (length (s .lists .C)) (length (s .lists .D)))) f
           (omega arith) (p .1) (λ h. omega (arith, count-moveToFront h (s .lists .D) i (p .0))) (omega (arith, bit-same f))
-          (λ h n. count-moveToFront h (s .lists .D) i (p .0)) (omega (arith, w .good .target-high))
+          (λ h n. count-moveToFront h (s .lists .D) i (p .0)) (dirty-front i (p .0)) (omega (arith, w .good .target-high))
       go Read (InDirty i) p =
           let f : ℕ = getD (s .lists .D) i 0 in
           let c = count-here (s .lists .D) i (p .0) in
           hit-stepped Read (s .lists .C) (moveToFront i (s .lists .D)) (s .target) f
           (omega arith) (p .1) (λ h. omega (arith, count-moveToFront h (s .lists .D) i (p .0))) (count-moveToFront f (s .lists .D) i (p .0))
-          (λ h n. count-moveToFront h (s .lists .D) i (p .0)) (w .good .target-high)
+          (λ h n. count-moveToFront h (s .lists .D) i (p .0)) (dirty-front i (p .0)) (w .good .target-high)
       go Read Absent p = absent Read p
       go Write Absent p = absent Write p
 
@@ -207,7 +264,7 @@ module _ (s : State) (w : Whole s) (q : ℕ) (q-inside : q < s .numbers .N) (mor
 pub flush-stepped : (s : State) → Whole s → s .counts .served < mostServed → FlushStepped states Whole framesOf s
 flush-stepped s w more =
     let g = w .good in
-    let same : (f : ℕ) → resident (flushed s .lists) f ≡ resident (s .lists) f = λ f. omega (arith, count-append f (s .lists .D) (s .lists .C)) in
+    let same : (f : ℕ) → resident (flushed s .lists) f ≡ resident (s .lists) f = λ f. omega (arith, count-merged (s .reference) f (s .lists .D) (s .lists .C)) in
     record {
       step = record { empty-same = λ f. refl; resident-same = same; page-same = refl; listed = λ f l. omega arith; rest = λ f e l. e; saved = λ f. refl };
       same = refl;
@@ -215,6 +272,7 @@ flush-stepped s w more =
         good = record {
           limits = g .limits;
           placed = placed-same (s .numbers) (framesOf s) (g .placed) (framesOf (flushed s)) (λ f. refl) same refl;
+          numbered = numbered-flushed (g .numbered);
           target-high = g .target-high;
           counts = counts-in (s .numbers) (s .counts) (g .counts) more 0 (length (s .lists .D)) (omega arith) (omega (arith, lengths-sum s g));
         };

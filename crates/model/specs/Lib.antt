@@ -11,4 +11,5 @@ pub mod Good
 pub mod Request
 pub mod Refusals
 pub mod Run
+pub mod References
 pub mod Table

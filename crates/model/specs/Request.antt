@@ -6,17 +6,18 @@
 --     states     all of it as a policy
 -- Assumes nothing.
 use mathlib.Core.Bool.{Bool, true, cond as if-else}
-use mathlib.Core.List.{List, [], _∷_, _++_}
+use mathlib.Core.List.{List, [], _∷_}
 use Prim.Native.Nat.{ℕ, _-_, _<_}
 use lib.ListN.{length, getD}
 use lib.Dec.{ltb}
 use Rattle.order.specs.Lists.{removeAt, moveToFront}
 use Rattle.order.specs.Find.{findFrom}
+use Rattle.order.specs.Merge.{merged}
 use Rattle.order.specs.declared.Found.{Found}
 use Rattle.order.specs.declared.Found.the-variants.{At, Nowhere}
 use Rattle.model.specs.Target.{Costs, Adjustment, up, down, adjust, aboveTarget}
 use Rattle.model.specs.Policy.{Outcome, Policy}
-use Rattle.model.specs.State.{State, withLists, withPageIn, withTarget, counted, pageIn}
+use Rattle.model.specs.State.{State, withLists, withPageIn, withTarget, counted, referenced, pageIn}
 use Rattle.model.specs.declared.Op.{Op}
 use Rattle.model.specs.declared.Op.the-variants.{Read, Write}
 use Rattle.model.specs.declared.Place.{Place}
@@ -91,9 +92,9 @@ writesOf (Dirty q) = 1
 
 -- ---- what a request does
 
--- a hit on frame f leaves state s
+-- a hit on frame f leaves state s, with its call counted and its number given to the frame
 abbrev pub hit : ℕ → State → Outcome State
-hit f s = record { state = counted 0 0 s; frame = f; answer = Hit }
+hit f s = record { state = referenced f (counted 0 0 s); frame = f; answer = Hit }
 
 -- lines 2 to 4
 abbrev pub readClean : Costs → State → ℕ → Outcome State
@@ -129,7 +130,7 @@ loaded Write f q s = withPageIn f q (withLists (s .lists .E) (s .lists .C) (f �
 abbrev pub faultInto : Op → ℕ → Taken → Outcome State
 faultInto op q t =
     record {
-      state = counted 1 (writesOf (t .victim)) (loaded op (t .frame) q (t .state));
+      state = referenced (t .frame) (counted 1 (writesOf (t .victim)) (loaded op (t .frame) q (t .state)));
       frame = t .frame;
       answer = Fault (t .victim);
     }
@@ -148,10 +149,10 @@ requestAt Write k s q Absent = faulted Write s q
 abbrev pub request : Op → Costs → State → ℕ → Outcome State
 request op k s q = requestAt op k s q (locate s q)
 
--- ---- a flush: the pages of D are written from last to first, and each goes to the front of C
+-- ---- a flush: the pages of D are written from last to first, and it "merges both lists, latest reference first"; it gives nobody its number
 
 abbrev pub flushed : State → State
-flushed s = counted 0 (length (s .lists .D)) (withLists (s .lists .E) (s .lists .D ++ s .lists .C) [] s)
+flushed s = counted 0 (length (s .lists .D)) (withLists (s .lists .E) (merged (s .reference) (s .lists .D) (s .lists .C)) [] s)
 
 -- ---- CASA as a policy, on plain states; pools that hold them are tested for soundness
 

@@ -20,6 +20,8 @@ pub record State : Type 0 where
   pub lists : Lists
   -- the page in each of the b frames
   pub page : List ℕ
+  -- "the number of the served call that last read or wrote its page", of each of them
+  pub reference : List ℕ
   pub target : ℕ
   pub counts : Counts
 
@@ -30,6 +32,7 @@ opened n =
       numbers = n;
       lists = record { E = downFrom (n .b); C = []; D = [] };
       page = replicate (n .b) 0;
+      reference = replicate (n .b) 0;
       target = 0;
       counts = record { served = 0; nR = 0; nW = 0 };
     }
@@ -38,16 +41,30 @@ opened n =
 
 abbrev pub withLists : List ℕ → List ℕ → List ℕ → State → State
 withLists e c d s =
-    record { numbers = s .numbers; lists = record { E = e; C = c; D = d }; page = s .page; target = s .target; counts = s .counts }
+    record {
+      numbers = s .numbers;
+      lists = record { E = e; C = c; D = d };
+      page = s .page;
+      reference = s .reference;
+      target = s .target;
+      counts = s .counts;
+    }
 
 -- page q is in frame f
 abbrev pub withPageIn : ℕ → ℕ → State → State
 withPageIn f q s =
-    record { numbers = s .numbers; lists = s .lists; page = set (s .page) f q; target = s .target; counts = s .counts }
+    record {
+      numbers = s .numbers;
+      lists = s .lists;
+      page = set (s .page) f q;
+      reference = s .reference;
+      target = s .target;
+      counts = s .counts;
+    }
 
 abbrev pub withTarget : ℕ → State → State
 withTarget τ s =
-    record { numbers = s .numbers; lists = s .lists; page = s .page; target = τ; counts = s .counts }
+    record { numbers = s .numbers; lists = s .lists; page = s .page; reference = s .reference; target = τ; counts = s .counts }
 
 -- one more served call, with so many physical reads and writes
 abbrev pub counted : ℕ → ℕ → State → State
@@ -56,14 +73,31 @@ counted reads writes s =
       numbers = s .numbers;
       lists = s .lists;
       page = s .page;
+      reference = s .reference;
       target = s .target;
       counts = countedBy reads writes (s .counts);
+    }
+
+-- the last served call read or wrote the page of frame f: its number is the served count
+abbrev pub referenced : ℕ → State → State
+referenced f s =
+    record {
+      numbers = s .numbers;
+      lists = s .lists;
+      page = s .page;
+      reference = set (s .reference) f (s .counts .served);
+      target = s .target;
+      counts = s .counts;
     }
 
 -- ---- readers
 
 abbrev pub pageIn : State → ℕ → ℕ
 pageIn s f = getD (s .page) f 0
+
+-- the reference number of frame f
+abbrev pub numberIn : State → ℕ → ℕ
+numberIn s f = getD (s .reference) f 0
 
 -- how often a frame stands in C and D, and in all three lists
 abbrev pub resident : Lists → ℕ → ℕ

@@ -117,8 +117,8 @@ expected =
           -- P4
           ∷ row (faultDirty 1) 1 (3 ∷ []) (2 ∷ []) 0 (0 ∷ [])
           -- P9
-          ∷ row (wrote 1) 1 (2 ∷ 3 ∷ []) [] 0 []
-          ∷ row (faultClean 3) 0 (1 ∷ 2 ∷ []) [] 0 (9 ∷ [])
+          ∷ row (wrote 1) 1 (3 ∷ 2 ∷ []) [] 0 []
+          ∷ row (faultClean 2) 0 (1 ∷ 3 ∷ []) [] 0 (9 ∷ [])
           ∷ [];
       end = 5 ∷ 2 ∷ 11 ∷ [];
       climb =

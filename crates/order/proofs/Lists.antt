@@ -2,14 +2,16 @@
 --     hole-down, hole-up, hole-fill    a shift moves a hole: without the place of the hole the list stays the same, and a store at the hole ends it
 --     removeAt-append, removeAt-seam, insertAt-seam    taking out of and putting into two lists, one behind the other
 --     removeAt-length, downFrom-length    how long a list is
+--     drop-next, drop-take-next, drop-take-end    what a loop at place i has still to read: the element there and what is behind it, or nothing
 -- Assumes nothing.
 use mathlib.Core.Path.{_≡_, refl, ap}
 use mathlib.Core.List.{List, [], _∷_, _++_}
-use Prim.Native.Nat.{ℕ, zero, suc, _+_, _-_, _<_}
+use Prim.Native.Nat.{ℕ, zero, suc, _+_, _-_, _≤_, _<_}
 use native.Mathlib.Nat.{le-of-suc-le-suc, not-suc-le-zero}
 use native.Mathlib.Numerals.{add-one}
 use native.Mathlib.Omega.{arith}
-use lib.ListN.{length, getD, set}
+use lib.ListN.{length, getD, set, take, drop, length-take, drop-of-length-le}
+use lib.Seq.{drop-cons, getD-take}
 use Rattle.order.specs.Lists.{removeAt, insertAt, downFrom}
 
 -- ---- a hole
@@ -63,3 +65,17 @@ removeAt-length (x ∷ xs) (suc i) h = ap suc (removeAt-length xs i (le-of-suc-l
 pub downFrom-length : (n : ℕ) → length (downFrom n) ≡ n
 downFrom-length zero = refl
 downFrom-length (suc n) = ap suc (downFrom-length n)
+
+-- ---- what is still to be read
+
+module _ (xs : List ℕ) where
+  pub drop-next : (i : ℕ) → i < length xs → drop i xs ≡ getD xs i 0 ∷ drop (i + 1) xs
+  drop-next i h = rw (add-one, drop-cons xs i 0)
+
+  pub drop-take-next : (n i : ℕ) → n ≤ length xs → i < n → drop i (take n xs) ≡ getD xs i 0 ∷ drop (i + 1) (take n xs)
+  drop-take-next n i l h =
+      let k : i < length (take n xs) = simp length-take (omega arith) in
+      rw (add-one, drop-cons (take n xs) i 0, getD-take)
+
+  pub drop-take-end : (n i : ℕ) → n ≤ i → drop i (take n xs) ≡ []
+  drop-take-end n i h = let k : length (take n xs) ≤ i = simp length-take (omega arith) in drop-of-length-le (take n xs) k

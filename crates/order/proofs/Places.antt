@@ -1,15 +1,17 @@
 -- Laws of a list in 64 places: what an operation on the places does to the list that they hold.
---     pad-length, pad-set    a padded list
+--     pad-length, pad-set, pad-getD    a padded list
 --     none-in-places, in-places-take, in-places-getD    the empty list, and what is read out of the places
 --     front-in-places, remove-in-places, cons-in-places, tail-in-places    an operation on the places is one on the list
---     before-start, before-turn, before-end    a list is put before another from its last element to its first
+--     turn-in-places, rest-in-places    places are filled with a list, one after the other
 -- Assumes nothing.
-use mathlib.Core.Path.{_≡_, refl}
+use mathlib.Core.Path.{_≡_, refl, sym, ap, _∙_}
 use mathlib.Core.List.{List, [], _∷_, _++_, append-assoc}
-use Prim.Native.Nat.{ℕ, suc, _+_, _-_, _≤_, _<_}
+use Prim.Native.Nat.{ℕ, zero, suc, _+_, _-_, _≤_, _<_}
+use native.Mathlib.Nat.{add-zero}
+use native.Mathlib.Numerals.{add-one}
 use native.Mathlib.Omega.{arith}
-use lib.ListN.{length, getD, set, take, drop, replicate, length-append, length-replicate, length-set, List·getD-append, drop-of-length-le}
-use lib.Seq.{set-append-seam, set-append-left, drop-cons, take-append-seam}
+use lib.ListN.{length, getD, set, take, drop, replicate, length-append, length-replicate, length-set, List·getD-append}
+use lib.Seq.{set-append-seam, set-append-left, take-append-seam, take-suc, getD-drop, drop-drop}
 use Rattle.order.specs.Lists.{removeAt, insertAt, moveToFront}
 use Rattle.order.specs.Places.{places, pad, InPlaces}
 use Rattle.order.proofs.Lists.{removeAt-append, removeAt-seam, insertAt-seam, removeAt-length}
@@ -21,6 +23,17 @@ pad-length xs h = simp (length-append, length-replicate) (omega arith)
 
 pub pad-set : (xs : List ℕ) (i x : ℕ) → i < length xs → set (pad xs) i x ≡ pad (set xs i x)
 pad-set xs i x h = rw (set-append-left xs _ i x h, length-set)
+
+-- behind a list there is 0, as where there is no place
+getD-zeros : (xs : List ℕ) (n i : ℕ) → getD (xs ++ replicate n 0) i 0 ≡ getD xs i 0
+getD-zeros [] zero i = refl
+getD-zeros [] (suc n) zero = refl
+getD-zeros [] (suc n) (suc i) = getD-zeros [] n i
+getD-zeros (x ∷ xs) n zero = refl
+getD-zeros (x ∷ xs) n (suc i) = getD-zeros xs n i
+
+pub pad-getD : (xs : List ℕ) (i : ℕ) → getD (pad xs) i 0 ≡ getD xs i 0
+pad-getD xs = getD-zeros xs (places - length xs)
 
 -- behind a list that leaves a place free stands a 0
 pad-free : (xs : List ℕ) → length xs < places → pad xs ≡ xs ++ 0 ∷ replicate (places - suc (length xs)) 0
@@ -84,23 +97,13 @@ module _ {list : List ℕ} {n : ℕ} {xs : List ℕ} (h : InPlaces list n xs) wh
         fits = omega arith;
       }
 
--- ---- one list before another
+-- ---- places that are filled with a list, one after the other
 
-module _ {front : List ℕ} {m : ℕ} {xs : List ℕ} (h : InPlaces front m xs) (ys : List ℕ) where
-  pub before-start : {back : List ℕ} {n : ℕ} → InPlaces back n ys → InPlaces back n (drop m xs ++ ys)
-  before-start g = let l : length xs ≤ m = omega (arith, h .len) in rw (drop-of-length-le xs l) g
+pub turn-in-places : {r : List ℕ} {k x : ℕ} (xs rest : List ℕ) → k < length xs → k < places → drop k xs ≡ x ∷ rest → InPlaces r k (take k xs)
+    → InPlaces (set r k x) (k + 1) (take (k + 1) xs)
+turn-in-places {k = k} {x} xs rest l f e h =
+    let is : getD xs k 0 ≡ x = ap (λ (n : ℕ). getD xs n 0) (sym (add-zero k)) ∙ sym (getD-drop k xs 0 0) ∙ ap (λ (z : List ℕ). getD z 0 0) e in
+    rw (add-one, take-suc xs k 0 l, is, ← add-one) (tail-in-places h x f)
 
-  pub before-turn : {r : List ℕ} {k : ℕ} (i : ℕ) → 0 < i → i ≤ m → k < places → InPlaces r k (drop i xs ++ ys)
-      → InPlaces (getD front (i - 1) 0 ∷ removeAt k r) (k + 1) (drop (i - 1) xs ++ ys)
-  before-turn i p l f g =
-      let b : i - 1 < m = omega arith in
-      let bl : i - 1 < length xs = omega (arith, h .len) in
-      let e : suc (i - 1) ≡ i = omega arith in
-      let s : drop (i - 1) xs ≡ getD xs (i - 1) 0 ∷ drop i xs = rw (drop-cons xs (i - 1) 0 bl, e) in
-      rw (in-places-getD h (i - 1) b, s) (cons-in-places g (getD xs (i - 1) 0) f)
-
-  pub before-end : {r : List ℕ} {k : ℕ} (n i : ℕ) → i ≤ 0 → k + i ≡ n + m → InPlaces r k (drop i xs ++ ys) → InPlaces r (n + m) (xs ++ ys)
-  before-end {k = k} n i z e g =
-      let a : i ≡ 0 = omega arith in
-      let b : n + m ≡ k = omega arith in
-      rw b (rw a at g)
+pub rest-in-places : (k : ℕ) {x : ℕ} (xs rest : List ℕ) → drop k xs ≡ x ∷ rest → drop (k + 1) xs ≡ rest
+rest-in-places k xs rest e = sym (drop-drop 1 k xs) ∙ ap (drop 1) e

@@ -14,32 +14,27 @@ use native.Mathlib.Decide.{ℕ-discrete}
 use native.Mathlib.Numerals.{add-one}
 use native.Mathlib.Omega.{arith}
 use native.Mathlib.Nat.{not-suc-le-zero, eq-or-lt-of-le, le-of-suc-le-suc}
-use lib.ListN.{length, getD, take, drop, drop-of-length-le}
-use lib.Seq.{length-take-le, drop-cons, getD-take}
+use lib.ListN.{length, getD, take, drop}
 use borrow.Author.Tests.{eq-eqb, ne-eqb}
 use Rattle.order.specs.Count.{count}
 use Rattle.order.specs.Find.{findFrom, hasBefore}
 use Rattle.order.specs.declared.Found.the-variants.{At, Nowhere}
+use Rattle.order.proofs.Lists.{drop-take-next, drop-take-end}
 use Rattle.order.proofs.Count.{bit-other}
 
 module _ (page : List ℕ) (wanted : ℕ) where
   -- ---- a loop over the first n
 
   module _ (list : List ℕ) (n i : ℕ) (l : n ≤ length list) where
-    next : i < n → drop i (take n list) ≡ getD list i 0 ∷ drop (i + 1) (take n list)
-    next h =
-        let k : i < length (take n list) = omega (arith, length-take-le n list l) in
-        rw (add-one, drop-cons (take n list) i 0 k, getD-take n list i 0 h)
-
     pub findFrom-hit : i < n → getD page (getD list i 0) 0 ≡ wanted → findFrom i page wanted (drop i (take n list)) ≡ At i
-    findFrom-hit h e = rw (next h, eq-eqb _ _ e)
+    findFrom-hit h e = rw (drop-take-next list n i l h, eq-eqb _ _ e)
 
     pub findFrom-miss : i < n → getD page (getD list i 0) 0 ≢ wanted
         → findFrom (i + 1) page wanted (drop (i + 1) (take n list)) ≡ findFrom i page wanted (drop i (take n list))
-    findFrom-miss h e = rw (next h, ne-eqb _ _ e, add-one)
+    findFrom-miss h e = rw (drop-take-next list n i l h, ne-eqb _ _ e, add-one)
 
     pub findFrom-end : n ≤ i → findFrom i page wanted (drop i (take n list)) ≡ Nowhere
-    findFrom-end h = let k : length (take n list) ≤ i = omega (arith, length-take-le n list l) in rw (drop-of-length-le (take n list) k)
+    findFrom-end h = rw (drop-take-end list n i h)
 
   -- ---- what a search tells
 

@@ -11,15 +11,14 @@ use native.Mathlib.Omega.{arith}
 use lib.ListN.{length, take, drop}
 use lib.Dec.{eqb, leb}
 use Rattle.order.specs.Places.{places}
-use Rattle.checks.specs.Tests.{Decides, every, isZero}
+use Rattle.checks.specs.Tests.{Decides, every, isZero, PagesRight}
 use Rattle.checks.proofs.Exact.{exact-iff, exact-eqb, exact-leb}
 use Rattle.checks.proofs.Decides.{decides-of, decides-test, decides-iff, decides-same}
-use Rattle.walk.specs.Walk.{FullRight}
 use Rattle.model.specs.Numbers.{unit, mostServed}
 use Rattle.pool.specs.Test.{CountsRight, TailsRight, soundB}
 use Rattle.pool.specs.Pool.{Sound}
 use Rattle.pool.specs.declared.Pool.{Pool}
-use Rattle.pool.proofs.Parts.{LimitsIn, CountsIn, LengthsIn, TailsIn, FramesIn, PagesIn, PartsRight, sound-parts, parts-sound}
+use Rattle.pool.proofs.Parts.{LimitsIn, CountsIn, LengthsIn, TailsIn, StandingIn, PagesIn, PartsRight, sound-parts, parts-sound}
 use Rattle.pool.proofs.Decides.{soundB-decides}
 
 -- ---- numbers
@@ -34,11 +33,11 @@ pub lengths-last : (b en cn dn : ℕ) → en ≤ b → cn ≤ b - en → Decides
 lengths-last b en cn dn h k =
     decides-of (eqb dn (b - en - cn)) (exact-iff (λ e. omega arith) (λ e. omega arith) (exact-eqb dn (b - en - cn)))
 
-pub tails-last : (e : List ℕ) (en : ℕ) (c : List ℕ) (cn : ℕ) (d : List ℕ) (dn : ℕ) (page : List ℕ) (b : ℕ) (t : Bool)
-    → every isZero (drop en e) ≡ true → every isZero (drop cn c) ≡ true → every isZero (drop dn d) ≡ true → t ≡ every isZero (drop b page)
-    → Decides t (TailsRight e en c cn d dn page b)
-tails-last e en c cn d dn page b t he hc hd h =
-    decides-iff t (λ hp. record { empty = he; clean = hc; dirty = hd; pages = hp }) (λ r. r .pages) (decides-test t _ h)
+pub tails-last : (e : List ℕ) (en : ℕ) (c : List ℕ) (cn : ℕ) (d : List ℕ) (dn : ℕ) (page reference : List ℕ) (b : ℕ) (t : Bool)
+    → every isZero (drop en e) ≡ true → every isZero (drop cn c) ≡ true → every isZero (drop dn d) ≡ true → every isZero (drop b page) ≡ true
+    → t ≡ every isZero (drop b reference) → Decides t (TailsRight e en c cn d dn page reference b)
+tails-last e en c cn d dn page reference b t he hc hd hp h =
+    decides-iff t (λ hr. record { empty = he; clean = hc; dirty = hd; pages = hp; references = hr }) (λ r. r .references) (decides-test t _ h)
 
 -- ---- the whole
 
@@ -46,20 +45,19 @@ pub sound-refused : (p : Pool) → (PartsRight p → ⊥) → false ≡ soundB p
 sound-refused p wrong = decides-same (Sound p) false (soundB p) (λ s. wrong (sound-parts p s)) (soundB-decides p)
 
 pub sound-last : (p : Pool) → length (p .empty) ≡ places → length (p .clean) ≡ places → length (p .dirty) ≡ places → length (p .page) ≡ places
-    → LimitsIn p → CountsIn p → LengthsIn p → TailsIn p → FramesIn p → (t : Bool) → Decides t (PagesIn p) → t ≡ soundB p
-sound-last p le lc ld lp l c n o f t d =
+    → length (p .reference) ≡ places → LimitsIn p → CountsIn p → LengthsIn p → TailsIn p → StandingIn p → (t : Bool) → Decides t (PagesIn p) → t ≡ soundB p
+sound-last p le lc ld lp lr l c n o f t d =
     decides-same (Sound p) t (soundB p)
     (decides-iff t
-    (λ g. parts-sound p le lc ld lp (record { limits = l; counts = c; lengths = n; tails = o; frames = f; pages = g }))
+    (λ g. parts-sound p le lc ld lp lr (record { limits = l; counts = c; lengths = n; tails = o; standing = f; pages = g }))
     (λ s. sound-parts p s .pages)
     d)
     (soundB-decides p)
 
 -- no frame is empty
 pub sound-full : (p : Pool) → length (p .empty) ≡ places → length (p .clean) ≡ places → length (p .dirty) ≡ places → length (p .page) ≡ places
-    → LimitsIn p → CountsIn p → LengthsIn p → TailsIn p → p .«empty_len» ≡ 0
-    → FullRight (p .frames) (p .pages) (take (p .«clean_len») (p .clean)) (take (p .«dirty_len») (p .dirty)) (p .page)
-    → true ≡ soundB p
-sound-full p le lc ld lp l c n o z f =
+    → length (p .reference) ≡ places → LimitsIn p → CountsIn p → LengthsIn p → TailsIn p → StandingIn p → p .«empty_len» ≡ 0
+    → PagesRight (p .frames) (p .pages) [] (p .page) → true ≡ soundB p
+sound-full p le lc ld lp lr l c n o f z g =
     let none : take (p .«empty_len») (p .empty) ≡ [] = ap (λ (k : ℕ). take k (p .empty)) z in
-    sound-last p le lc ld lp l c n o (rw none (f .frames)) true (rw none (f .pages))
+    sound-last p le lc ld lp lr l c n o f true (rw none g)

@@ -4,16 +4,18 @@
 --     limits-decides    the numbers
 --     inPlacesB-exact, soundB-exact, soundB-decides    a list in its places, and the whole pool
 -- Assumes nothing.
-use mathlib.Core.Path.{_≡_, sym}
+use mathlib.Core.Path.{_≡_, refl, sym}
 use mathlib.Core.Bool.{Bool, _&&_, or-assoc}
 use mathlib.Core.Logic.{_≢_, dite}
-use mathlib.Core.List.{List, _++_}
-use Prim.Native.Nat.{ℕ, _*_, _≤_, _<_}
+use mathlib.Core.List.{List, [], _∷_, _++_}
+use Prim.Native.Nat.{ℕ, _+_, _*_, _≤_, _<_}
 use native.Mathlib.Decide.{decLt}
 use native.Mathlib.Omega.{arith}
 use lib.ListN.{length, take, drop}
 use Rattle.order.specs.Count.{count}
 use Rattle.order.specs.Places.{places, InPlaces}
+use Rattle.order.specs.Merge.{Falls, Ordered}
+use Rattle.order.proofs.Count.{count-append}
 use Rattle.checks.specs.Tests.{Decides, every, isZero, FramesRight}
 use Rattle.checks.proofs.Counting.{count-three}
 use Rattle.checks.proofs.Exact.{Exact, exact-iff, exact-self, exact-and, exact-not, exact-eqb, exact-leb, exact-ltb, exact-where, exact-everyBelow, exact-every}
@@ -21,12 +23,12 @@ use Rattle.checks.proofs.Frames.{frames-below}
 use Rattle.checks.proofs.Zeros.{zeros-in-places, in-places-zeros, in-places-length}
 use Rattle.checks.proofs.Decides.{decides-of}
 use Rattle.model.specs.Numbers.{Numbers, unit, mostServed, inLimits, Limits}
-use Rattle.model.specs.State.{State, pageIn, resident, standing, framesOf}
+use Rattle.model.specs.State.{State, pageIn, numberIn, resident, standing, framesOf}
 use Rattle.model.specs.Frames.{Blank}
-use Rattle.model.specs.Good.{Good}
+use Rattle.model.specs.Good.{Numbered, Good}
 use Rattle.model.proofs.Limits.{inLimits-limits, limits-inLimits}
 use Rattle.model.proofs.Good.{standing-below}
-use Rattle.pool.specs.Test.{CountsRight, framesB, apartB, countsB, goodB, blankB, inPlacesB, soundB}
+use Rattle.pool.specs.Test.{CountsRight, framesB, apartB, fallsB, orderedB, numberedB, countsB, goodB, blankB, inPlacesB, soundB}
 use Rattle.pool.specs.Pool.{stateOf, Sound}
 use Rattle.pool.specs.declared.Pool.{Pool}
 use Rattle.pool.proofs.Parts.{lists-whole, sound-lists}
@@ -78,6 +80,42 @@ module _ (s : State) where
   apartB-exact f g =
       rw or-assoc (exact-where (resident (s .lists) f) (exact-where (resident (s .lists) g) (exact-not (exact-eqb (pageIn s f) (pageIn s g)))))
 
+  fallsB-exact : (fs : List ℕ) → Exact (fallsB s fs) (Falls (s .reference) fs)
+  fallsB-exact [] = record { means = λ e. tt; test = λ x. refl }
+  fallsB-exact (f ∷ fs) = exact-and (exact-every (λ g. exact-ltb (numberIn s g) (numberIn s f)) fs) (fallsB-exact fs)
+
+  orderedB-exact : Exact (orderedB s) (Ordered (s .reference) (s .counts .served) (s .lists .C) (s .lists .D))
+  orderedB-exact =
+      exact-iff
+      (λ x.
+      record {
+        first-falls = x .0 .0;
+        second-falls = x .0 .1;
+        apart = λ f g c d. x .1 .0 f c g d;
+        low = λ f c. x .1 .1 f (omega (arith, both f)) .0;
+        high = λ f c. x .1 .1 f (omega (arith, both f)) .1;
+      })
+      (λ o. (
+        (o .first-falls, o .second-falls),
+        (λ f c g d. o .apart f g c d, λ f c. (o .low f (omega (arith, both f)), o .high f (omega (arith, both f)))),
+      ))
+      (exact-and
+      (exact-and (fallsB-exact (s .lists .C)) (fallsB-exact (s .lists .D)))
+      (exact-and
+      (exact-every (λ f. exact-every (λ g. exact-not (exact-eqb (numberIn s f) (numberIn s g))) (s .lists .D)) (s .lists .C))
+      (exact-every (λ f. exact-and (exact-leb 1 (numberIn s f)) (exact-leb (numberIn s f) (s .counts .served))) (s .lists .C ++ s .lists .D))))
+    where
+      both : (f : ℕ) → count f (s .lists .C ++ s .lists .D) ≡ count f (s .lists .C) + count f (s .lists .D)
+      both f = count-append f (s .lists .C) (s .lists .D)
+
+  numberedB-exact : Exact (numberedB s) (Numbered (s .numbers .b) (s .counts .served) (s .reference) (s .lists))
+  numberedB-exact =
+      exact-iff
+      (λ x. record { each = x .0; ordered = x .1 .0; blank = x .1 .1 })
+      (λ n. (n .each, (n .ordered, n .blank)))
+      (exact-and (exact-eqb (length (s .reference)) (s .numbers .b))
+      (exact-and orderedB-exact (exact-every (λ f. exact-eqb (numberIn s f) 0) (s .lists .E))))
+
   goodB-exact : Exact (goodB s) (Good s)
   goodB-exact =
       exact-iff
@@ -94,8 +132,9 @@ module _ (s : State) where
               dite (decLt g f) (λ l. absurd (x .1 .1 .0 .1 .1 f (below f h) g l h k e))
               (λ n. dite (decLt f g) (λ l. absurd (x .1 .1 .0 .1 .1 g (below g k) f l k h (sym e))) (λ m. omega arith));
         };
-        target-high = x .1 .1 .1 .target-high;
-        counts = record { served-high = x .1 .1 .1 .served-high; reads-high = x .1 .1 .1 .reads-high; writes-high = x .1 .1 .1 .writes-high };
+        numbered = x .1 .1 .1 .0;
+        target-high = x .1 .1 .1 .1 .target-high;
+        counts = record { served-high = x .1 .1 .1 .1 .served-high; reads-high = x .1 .1 .1 .1 .reads-high; writes-high = x .1 .1 .1 .1 .writes-high };
       })
       (λ g. (
         g .limits,
@@ -103,8 +142,11 @@ module _ (s : State) where
           record { once = g .placed .once; others = g .placed .others },
           (
             (g .placed .paged, (λ f l h. g .placed .inside f h, λ f l h n i k e. let m = g .placed .apart f h i k e in omega arith)),
-            let k = g .counts in
-                record { target-high = g .target-high; served-high = k .served-high; reads-high = k .reads-high; writes-high = k .writes-high },
+            (
+              g .numbered,
+              let k = g .counts in
+                  record { target-high = g .target-high; served-high = k .served-high; reads-high = k .reads-high; writes-high = k .writes-high },
+            ),
           ),
         ),
       ))
@@ -115,7 +157,7 @@ module _ (s : State) where
       (exact-and
       (exact-everyBelow (λ f. exact-where (resident (s .lists) f) (exact-ltb (pageIn s f) (s .numbers .N))) (s .numbers .b))
       (exact-everyBelow (λ f. exact-everyBelow (apartB-exact f) f) (s .numbers .b))))
-      countsB-exact)))
+      (exact-and numberedB-exact countsB-exact))))
 
   -- a frame that is empty stands in a list, and so is one of those that are tested
   blankB-exact : Exact (goodB s && blankB s) (Good s × Blank (framesOf s))
@@ -135,13 +177,14 @@ soundB-exact p =
     record {
       good = x .1 .0;
       blank = x .1 .1;
-      whole = lists-whole p (record { empty = x .0 .0; clean = x .0 .1 .0; dirty = x .0 .1 .1 .0; page = x .0 .1 .1 .1 });
+      whole = lists-whole p (record { empty = x .0 .0; clean = x .0 .1 .0; dirty = x .0 .1 .1 .0; page = x .0 .1 .1 .1 .0; reference = x .0 .1 .1 .1 .1 });
     })
-    (λ s. let h = sound-lists p s in ((h .empty, (h .clean, (h .dirty, h .page))), (s .good, s .blank)))
+    (λ s. let h = sound-lists p s in ((h .empty, (h .clean, (h .dirty, (h .page, h .reference)))), (s .good, s .blank)))
     (exact-and
     (exact-and (inPlacesB-exact (p .empty) (p .«empty_len»))
     (exact-and (inPlacesB-exact (p .clean) (p .«clean_len»))
-    (exact-and (inPlacesB-exact (p .dirty) (p .«dirty_len»)) (inPlacesB-exact (p .page) (p .frames)))))
+    (exact-and (inPlacesB-exact (p .dirty) (p .«dirty_len»))
+    (exact-and (inPlacesB-exact (p .page) (p .frames)) (inPlacesB-exact (p .reference) (p .frames))))))
     (blankB-exact (stateOf p)))
 
 pub soundB-decides : (p : Pool) → Decides (soundB p) (Sound p)

@@ -1,11 +1,12 @@
 -- Laws of the form of a pool.
 --     state-pool, sound-of    the pool that holds a good state is sound
 --     pool-empty, pool-clean, pool-dirty    its places hold the lists of the state
---     refilled-is    a pool with other lists, pages, target and counts holds the state with these
+--     refilled-is    a pool with other lists, pages, numbers, target and counts holds the state with these
 --     find-pad, find-clean, find-dirty    the search for a page over all places is the search over the frames
 --     lengths-frames, empty-in-places, clean-in-places, dirty-in-places    the lists of a sound pool
 --     clean-frame, dirty-frame    what stands in C and D is a frame
 --     page-pad, page-at, listed-page    the page of each frame
+--     reference-pad, reference-at, reference-set    its reference number
 --     writes-fit    the count of physical writes is small
 -- Assumes nothing.
 use mathlib.Core.Path.{_≡_, refl, sym, ap, subst, _∙_}
@@ -13,11 +14,11 @@ use mathlib.Core.List.{List, [], _∷_}
 use Prim.Native.Nat.{ℕ, suc, _+_, _*_, _≤_, _<_}
 use native.Mathlib.Nat.{le-trans, mul-le-mul}
 use native.Mathlib.Omega.{arith}
-use lib.ListN.{length, getD, take, List·getD-append}
+use lib.ListN.{length, getD, set, take, List·getD-append}
 use lib.Seq.{take-at}
 use Rattle.order.specs.Places.{places, pad, InPlaces}
 use Rattle.order.specs.Find.{findFrom}
-use Rattle.order.proofs.Places.{in-places-getD}
+use Rattle.order.proofs.Places.{pad-set, pad-getD, in-places-getD}
 use Rattle.model.specs.Numbers.{mostServed}
 use Rattle.model.specs.State.{State, framesOf}
 use Rattle.model.specs.Frames.{Blank}
@@ -28,12 +29,19 @@ use Rattle.pool.specs.declared.Pool.{Pool}
 
 -- ---- the pool that holds a state
 
-pub state-pool : (s : State) → length (s .page) ≡ s .numbers .b → stateOf (poolOf s) ≡ s
-state-pool s h = rw (take-at (s .lists .E) _ _ refl, take-at (s .lists .C) _ _ refl, take-at (s .lists .D) _ _ refl, take-at (s .page) _ _ h)
+pub state-pool : (s : State) → length (s .page) ≡ s .numbers .b → length (s .reference) ≡ s .numbers .b → stateOf (poolOf s) ≡ s
+state-pool s h k =
+    rw (
+      take-at (s .lists .E) _ _ refl,
+      take-at (s .lists .C) _ _ refl,
+      take-at (s .lists .D) _ _ refl,
+      take-at (s .page) _ _ h,
+      take-at (s .reference) _ _ k,
+    )
 
 pub sound-of : (s : State) → Good s → Blank (framesOf s) → Sound (poolOf s)
 sound-of s g b =
-    let e = state-pool s (g .placed .paged) in
+    let e = state-pool s (g .placed .paged) (g .numbered .each) in
     record { good = rw e g; blank = subst (λ (t : State). Blank (framesOf t)) (sym e) b; whole = ap poolOf (sym e) }
 
 module _ (p : Pool) (s : State) (w : p ≡ poolOf s) where
@@ -47,8 +55,8 @@ module _ (p : Pool) (s : State) (w : p ≡ poolOf s) where
   pool-dirty h = record { is = ap (λ (q : Pool). q .dirty) w; len = sym (ap (λ (q : Pool). q .«dirty_len») w); fits = h }
 
 -- pool p with other places, target and counts: a field that nothing of this changes is named here alone
-abbrev pub refilled : List ℕ → ℕ → List ℕ → ℕ → List ℕ → ℕ → List ℕ → ℕ → ℕ → ℕ → ℕ → Pool → Pool
-refilled e en c cn d dn page τ served nR nW p =
+abbrev pub refilled : List ℕ → ℕ → List ℕ → ℕ → List ℕ → ℕ → List ℕ → List ℕ → ℕ → ℕ → ℕ → ℕ → Pool → Pool
+refilled e en c cn d dn page reference τ served nR nW p =
     record {
       frames = p .frames;
       «page_bytes» = p .«page_bytes»;
@@ -62,19 +70,28 @@ refilled e en c cn d dn page τ served nR nW p =
       dirty = d;
       «dirty_len» = dn;
       page = page;
+      reference = reference;
       target = τ;
       served = served;
       reads = record { 0 = nR };
       writes = record { 0 = nW };
     }
 
-pub refilled-is : (p : Pool) (s : State) (page : List ℕ) {e c d pages : List ℕ} {en cn dn t v r n : ℕ} {E C D : List ℕ} {τ served nR nW : ℕ} → p ≡ poolOf s
-    → InPlaces e en E → InPlaces c cn C → InPlaces d dn D → pages ≡ pad page → t ≡ τ → v ≡ served → r ≡ nR → n ≡ nW
-    → refilled e en c cn d dn pages t v r n p
+pub refilled-is : (p : Pool) (s : State) (page reference : List ℕ) {e c d pages numbers : List ℕ} {en cn dn t v r n : ℕ} {E C D : List ℕ}
+    {τ served nR nW : ℕ} → p ≡ poolOf s → InPlaces e en E → InPlaces c cn C → InPlaces d dn D → pages ≡ pad page → numbers ≡ pad reference
+    → t ≡ τ → v ≡ served → r ≡ nR → n ≡ nW
+    → refilled e en c cn d dn pages numbers t v r n p
     ≡ poolOf
-    (record { numbers = s .numbers; lists = record { E = E; C = C; D = D }; page = page; target = τ; counts = record { served = served; nR = nR; nW = nW } })
-refilled-is p s page w he hc hd hp ht hv hr hn =
-    λ i. refilled (he .is i) (sym (he .len) i) (hc .is i) (sym (hc .len) i) (hd .is i) (sym (hd .len) i) (hp i) (ht i) (hv i) (hr i) (hn i) (w i)
+    (record {
+      numbers = s .numbers;
+      lists = record { E = E; C = C; D = D };
+      page = page;
+      reference = reference;
+      target = τ;
+      counts = record { served = served; nR = nR; nW = nW };
+    })
+refilled-is p s page reference w he hc hd hp hf ht hv hr hn =
+    λ i. refilled (he .is i) (sym (he .len) i) (hc .is i) (sym (hc .len) i) (hd .is i) (sym (hd .len) i) (hp i) (hf i) (ht i) (hv i) (hr i) (hn i) (w i)
 
 -- ---- a search over all places
 
@@ -114,6 +131,18 @@ module _ (p : Pool) (s : Sound p) where
 
   pub page-pad : p .page ≡ pad (stateOf p .page)
   page-pad = ap (λ (q : Pool). q .page) (s .whole)
+
+  pub reference-pad : p .reference ≡ pad (stateOf p .reference)
+  reference-pad = ap (λ (q : Pool). q .reference) (s .whole)
+
+  pub reference-at : (f : ℕ) → getD (p .reference) f 0 ≡ getD (stateOf p .reference) f 0
+  reference-at f = ap (λ (l : List ℕ). getD l f 0) reference-pad ∙ pad-getD (stateOf p .reference) f
+
+  -- frame f has the number of the next served call
+  pub reference-set : (f : ℕ) → f < p .frames → set (p .reference) f (p .served + 1) ≡ pad (set (stateOf p .reference) f (p .served + 1))
+  reference-set f h =
+      ap (λ (l : List ℕ). set l f (p .served + 1)) reference-pad
+      ∙ pad-set (stateOf p .reference) f (p .served + 1) (omega (arith, s .good .numbered .each))
 
   pub page-at : (f : ℕ) → f < p .frames → getD (p .page) f 0 ≡ getD (stateOf p .page) f 0
   page-at f h =

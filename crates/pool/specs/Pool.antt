@@ -29,6 +29,7 @@ poolOf s =
       dirty = pad (s .lists .D);
       «dirty_len» = length (s .lists .D);
       page = pad (s .page);
+      reference = pad (s .reference);
       target = s .target;
       served = s .counts .served;
       reads = record { 0 = s .counts .nR };
@@ -49,6 +50,7 @@ stateOf p =
             D = take (p .«dirty_len») (p .dirty);
           };
       page = take (p .frames) (p .page);
+      reference = take (p .frames) (p .reference);
       target = p .target;
       counts = record { served = p .served; nR = p .reads .0; nW = p .writes .0 };
     }

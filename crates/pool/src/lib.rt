@@ -1,4 +1,4 @@
-// The pool, the test whether it is sound, and a fresh one. The test takes any values at all, and reads each list and the pages a fixed number of times.
+// The pool, the test whether it is sound, and a fresh one. The test takes any values at all, and reads each list, the pages and the reference numbers a fixed number of times.
 ghost use mathlib.Core.Path.{_≡_};
 ghost use Prim.Native.Nat.{_+_, _≤_};
 ghost use lib.ListN.{length};
@@ -8,7 +8,6 @@ ghost use Rattle.model.specs.Numbers.{numbers};
 ghost use Rattle.model.specs.State.{opened};
 ghost use Rattle.pool.specs.Pool.{poolOf};
 ghost use Rattle.pool.specs.Test.{soundB, CountsRight, TailsRight};
-use checks::frame_test;
 use checks::page_test;
 use checks::tails;
 use model::MOST_SERVED;
@@ -37,6 +36,9 @@ pub struct Pool {
     pub dirty_len: usize,
     // The page of each frame: below N and in no other frame; 0 of an empty frame, and in the places past the frames.
     pub page: [u16; PLACES],
+    // The reference number of each frame: that of the served call that last read or wrote its page, from 1 to the served calls and in no other frame, and
+    // falling down C and down D; 0 of an empty frame, and in the places past the frames.
+    pub reference: [u32; PLACES],
     // The target in units, 65,536 to a page: at most b × 65,536.
     pub target: u64,
     // The calls served since opening: at most 1,000,000,000.
@@ -89,10 +91,12 @@ fn tails_right(
     d: &[u8; PLACES],
     dn: usize,
     page: &[u16; PLACES],
+    reference: &[u32; PLACES],
     frames: usize,
 ) -> bool
-    requires { ⌜ (length (now e) ≡ places) × (length (now c) ≡ places) × (length (now d) ≡ places) × (length (now page) ≡ places) ⌝ }
-    ensures { λ r. ⌜ Decides r (TailsRight (now (e .entry)) en (now (c .entry)) cn (now (d .entry)) dn (now (page .entry)) frames) ⌝ }
+    requires { ⌜ (length (now e) ≡ places) × (length (now c) ≡ places) × (length (now d) ≡ places) × (length (now page) ≡ places)
+        × (length (now reference) ≡ places) ⌝ }
+    ensures { λ r. ⌜ Decides r (TailsRight (now (e .entry)) en (now (c .entry)) cn (now (d .entry)) dn (now (page .entry)) (now (reference .entry)) frames) ⌝ }
 {
     if !tails::zeros8(e, en) {
         return false;
@@ -103,7 +107,10 @@ fn tails_right(
     if !tails::zeros8(d, dn) {
         return false;
     }
-    tails::zeros16(page, frames)
+    if !tails::zeros16(page, frames) {
+        return false;
+    }
+    tails::zeros32(reference, frames)
 }
 
 // ---- the whole
@@ -142,16 +149,27 @@ pub fn sound(pool: Pool) -> bool
     let c = pool.clean;
     let d = pool.dirty;
     let page = pool.page;
-    if !tails_right(&e, en, &c, cn, &d, dn, &page, frames) {
+    let reference = pool.reference;
+    if !tails_right(&e, en, &c, cn, &d, dn, &page, &reference, frames) {
+        return false;
+    }
+    if !recency::standing_right(
+        &e,
+        en,
+        &c,
+        cn,
+        &d,
+        dn,
+        frames,
+        &reference,
+        pool.served as u32,
+    ) {
         return false;
     }
     if en == 0 {
-        if walk::full_right(&c, cn, &d, dn, &page, frames, pages) {
+        if walk::full_right(&page, frames, pages) {
             return true;
         }
-    }
-    if !frame_test::frames_right(&e, en, &c, cn, &d, dn, frames) {
-        return false;
     }
     page_test::pages_right(&e, en, &page, frames, pages)
 }
@@ -173,6 +191,7 @@ pub fn fresh(
     let clean = [0u8; PLACES];
     let dirty = [0u8; PLACES];
     let page = [0u16; PLACES];
+    let reference = [0u32; PLACES];
     let reads = Reads(0);
     let writes = Writes(0);
     Pool {
@@ -188,6 +207,7 @@ pub fn fresh(
         dirty,
         dirty_len: 0,
         page,
+        reference,
         target: 0,
         served: 0,
         reads,

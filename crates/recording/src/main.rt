@@ -7,7 +7,6 @@ use calls::STRETCH;
 use calls::at_most;
 use calls::chance;
 use calls::chance::World;
-use calls::digest;
 use pool::Pool;
 use recorder::Closing;
 use recorder::Recorded;

@@ -23,16 +23,17 @@ use Rattle.model.specs.declared.Answer.the-variants.{Fault}
 use Rattle.model.proofs.Good.{E-below, C-below, D-below, lengths-sum}
 use Rattle.pool.specs.Pool.{stateOf, Sound}
 use Rattle.pool.specs.declared.Pool.{Pool}
-use Rattle.pool.proofs.Form.{pool-clean, pool-dirty, refilled, empty-in-places, clean-in-places, dirty-in-places, writes-fit, page-pad}
+use Rattle.pool.proofs.Form.{pool-clean, pool-dirty, refilled, empty-in-places, clean-in-places, dirty-in-places, writes-fit, page-pad, reference-pad}
 use Rattle.step.specs.Step.{stepOf, freedOf, filled}
 use Rattle.step.specs.declared.Step.{Step}
 use Rattle.step.specs.declared.Freed.{Freed}
 
 -- ---- a frame leaves its list
 
--- the pool with these pages, counts and lists, frame f, and its victim v
-abbrev freedWith : List ℕ → ℕ → ℕ → ℕ → List ℕ → ℕ → List ℕ → ℕ → List ℕ → ℕ → ℕ → Victim → Pool → Freed
-freedWith page served nR nW e en c cn d dn f v p = record { pool = refilled e en c cn d dn page (p .target) served nR nW p; frame = f; victim = v }
+-- the pool with these pages, numbers, counts and lists, frame f, and its victim v
+abbrev freedWith : List ℕ → List ℕ → ℕ → ℕ → ℕ → List ℕ → ℕ → List ℕ → ℕ → List ℕ → ℕ → ℕ → Victim → Pool → Freed
+freedWith page reference served nR nW e en c cn d dn f v p =
+    record { pool = refilled e en c cn d dn page reference (p .target) served nR nW p; frame = f; victim = v }
 
 -- place i is one of the n of a list, and what stands there is a frame
 pub record Stands (list : List ℕ) (n i : ℕ) : Type 0 where
@@ -53,10 +54,10 @@ module _ (p : Pool) (s : Sound p) where
       record { place = l; fits = h .fits; frame = rw (in-places-getD h i l) (omega (arith, f, s .good .limits .b-high)) }
 
   pub freed-is : {e c d : List ℕ} {en cn dn f : ℕ} {E C D : List ℕ} {g : ℕ} {v w : Victim} → InPlaces e en E → InPlaces c cn C → InPlaces d dn D → f ≡ g → v ≡ w
-      → freedWith (p .page) (p .served) (p .reads .0) (p .writes .0) e en c cn d dn f v p
+      → freedWith (p .page) (p .reference) (p .served) (p .reads .0) (p .writes .0) e en c cn d dn f v p
       ≡ freedOf (record { state = withLists E C D (stateOf p); frame = g; victim = w })
   freed-is he hc hd hf hv =
-      λ i. freedWith (page-pad p s i) (p .served) (p .reads .0) (p .writes .0)
+      λ i. freedWith (page-pad p s i) (reference-pad p s i) (p .served) (p .reads .0) (p .writes .0)
       (he .is i) (sym (he .len) i) (hc .is i) (sym (hc .len) i) (hd .is i) (sym (hd .len) i) (hf i) (hv i) (s .whole i)
 
   pub choice-stands : (k : Choice) → ChoiceIn (p .«empty_len») (p .«clean_len») (p .«dirty_len») k → StandsIn p k
@@ -66,27 +67,28 @@ module _ (p : Pool) (s : Sound p) where
 
 -- ---- the frame is filled
 
--- what was taken is a frame, C and D have room for it, and pages and counts are as they were
+-- what was taken is a frame, C and D have room for it, and pages, numbers and counts are as they were
 record TakenIn (s : State) (t : Taken) : Type 0 where
   frame : t .frame < s .numbers .b
   clean : length (t .state .lists .C) < places
   dirty : length (t .state .lists .D) < places
   page : t .state .page ≡ s .page
+  reference : t .state .reference ≡ s .reference
   counts : t .state .counts ≡ s .counts
 
 taken-in : (s : State) → Good s → (k : Choice) → ChoiceIn (length (s .lists .E)) (length (s .lists .C)) (length (s .lists .D)) k → TakenIn s (taken s k)
 taken-in s g (OfEmpty i) h =
     let l = lengths-sum s g in
     let b = g .limits .b-high in
-    record { frame = E-below s g i h; clean = omega arith; dirty = omega arith; page = refl; counts = refl }
+    record { frame = E-below s g i h; clean = omega arith; dirty = omega arith; page = refl; reference = refl; counts = refl }
 taken-in s g (OfClean i) h =
     let l = lengths-sum s g in
     let b = g .limits .b-high in
-    record { frame = C-below s g i h; clean = omega (arith, removeAt-length (s .lists .C) i h); dirty = omega arith; page = refl; counts = refl }
+    record { frame = C-below s g i h; clean = omega (arith, removeAt-length (s .lists .C) i h); dirty = omega arith; page = refl; reference = refl; counts = refl }
 taken-in s g (OfDirty i) h =
     let l = lengths-sum s g in
     let b = g .limits .b-high in
-    record { frame = D-below s g i h; clean = omega arith; dirty = omega (arith, removeAt-length (s .lists .D) i h); page = refl; counts = refl }
+    record { frame = D-below s g i h; clean = omega arith; dirty = omega (arith, removeAt-length (s .lists .D) i h); page = refl; reference = refl; counts = refl }
 
 writes-one : (v : Victim) → writesOf v ≤ 1
 writes-one None = omega arith
@@ -106,11 +108,12 @@ pub record Fillable (x : Freed) (n : ℕ) : Type 0 where
 -- page q is in the frame, with one call and one read more, and n writes more
 abbrev fillWith : ℕ → ℕ → Freed → Freed
 fillWith q n x =
-    freedWith (set (x .pool .page) (x .frame) q) (x .pool .served + 1) (x .pool .reads .0 + 1) (x .pool .writes .0 + n)
+    freedWith (set (x .pool .page) (x .frame) q) (set (x .pool .reference) (x .frame) (x .pool .served + 1)) (x .pool .served + 1) (x .pool .reads .0 + 1) (x .pool .writes .0 + n)
     (x .pool .empty) (x .pool .«empty_len») (x .pool .clean) (x .pool .«clean_len») (x .pool .dirty) (x .pool .«dirty_len») (x .frame) (x .victim) (x .pool)
 
-filled-is : (q : ℕ) (t : Taken) → t .frame < length (t .state .page) → fillWith q (writesOf (t .victim)) (freedOf t) ≡ freedOf (filled q t)
-filled-is q t h = rw (pad-set (t .state .page) (t .frame) q h)
+filled-is : (q : ℕ) (t : Taken) → t .frame < length (t .state .page) → t .frame < length (t .state .reference)
+    → fillWith q (writesOf (t .victim)) (freedOf t) ≡ freedOf (filled q t)
+filled-is q t h l = rw (pad-set (t .state .page) (t .frame) q h, pad-set (t .state .reference) (t .frame) (t .state .counts .served + 1) l)
 
 module _ (p : Pool) (s : Sound p) (k : Choice) (h : ChoiceIn (p .«empty_len») (p .«clean_len») (p .«dirty_len») k)
     (x : Freed) (e : x ≡ freedOf (taken (stateOf p) k)) {n : ℕ} (m : n ≡ writesOf (x .victim)) where
@@ -143,10 +146,11 @@ module _ (p : Pool) (s : Sound p) (k : Choice) (h : ChoiceIn (p .«empty_len») 
       → fillWith q n x ≡ freedOf (filled q (taken (stateOf p) (chosen (stateOf p))))
   taken-is q c =
       let l : length (taken (stateOf p) k .state .page) ≡ p .frames = ap length (inside .page) ∙ s .good .placed .paged in
+      let n : length (taken (stateOf p) k .state .reference) ≡ p .frames = ap length (inside .reference) ∙ s .good .numbered .each in
       let which : k ≡ chosen (stateOf p) =
       c ∙ (λ i. chosenBy (sym (empty-in-places p s .len) i) (sym (clean-in-places p s .len) i) (sym (dirty-in-places p s .len) i) (p .target)) in
       (λ i. fillWith q ((m ∙ ap (λ (z : Freed). writesOf (z .victim)) e) i) (e i))
-      ∙ filled-is q (taken (stateOf p) k) (omega (arith, inside .frame))
+      ∙ filled-is q (taken (stateOf p) k) (omega (arith, inside .frame)) (omega (arith, inside .frame))
       ∙ ap (λ (z : Choice). freedOf (filled q (taken (stateOf p) z))) which
 
 -- ---- the frame that was taken and filled goes to a front
@@ -156,7 +160,7 @@ abbrev faultWith : Freed → List ℕ → ℕ → List ℕ → ℕ → Step
 faultWith x c cn d dn =
     let p = x .pool in
     record {
-      pool = refilled (p .empty) (p .«empty_len») c cn d dn (p .page) (p .target) (p .served) (p .reads .0) (p .writes .0) p;
+      pool = refilled (p .empty) (p .«empty_len») c cn d dn (p .page) (p .reference) (p .target) (p .served) (p .reads .0) (p .writes .0) p;
       frame = x .frame;
       answer = Fault (x .victim);
     }

@@ -2,7 +2,7 @@
 -- Assumes nothing.
 use Prim.Native.Nat.{ℕ}
 use Rattle.model.specs.Policy.{Outcome}
-use Rattle.model.specs.State.{State, counted, withPageIn}
+use Rattle.model.specs.State.{State, counted, referenced, withPageIn}
 use Rattle.model.specs.Request.{Taken, writesOf}
 use Rattle.pool.specs.Pool.{poolOf}
 use Rattle.step.specs.declared.Step.{Step}
@@ -16,4 +16,9 @@ freedOf t = record { pool = poolOf (t .state); frame = t .frame; victim = t .vic
 
 -- a frame that was taken, filled with page q
 abbrev pub filled : ℕ → Taken → Taken
-filled q t = record { state = counted 1 (writesOf (t .victim)) (withPageIn (t .frame) q (t .state)); frame = t .frame; victim = t .victim }
+filled q t =
+    record {
+      state = referenced (t .frame) (counted 1 (writesOf (t .victim)) (withPageIn (t .frame) q (t .state)));
+      frame = t .frame;
+      victim = t .victim;
+    }

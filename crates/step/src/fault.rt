@@ -93,7 +93,7 @@ fn writes_of(victim: Victim) -> u64
     }
 }
 
-// The frame that the policy chooses, out of its list and filled with the page. C and D have room for it.
+// The frame that the policy chooses, out of its list and filled with the page, with the call's number. C and D have room for it.
 fn take_frame(pool: Pool, page: u16) -> Freed
     requires { ⌜ Sound pool ⌝ }
     ensures { λ r. ⌜ (r ≡ freedOf (filled page (taken (stateOf pool) (chosen (stateOf pool))))) × (r .frame < places)
@@ -105,14 +105,18 @@ fn take_frame(pool: Pool, page: u16) -> Freed
     let victim = freed.victim;
     let rest = freed.pool;
     let writes = writes_of(victim);
-    let mut pages = rest.page;
+    let call = rest.served + 1;
     let f = frame as usize;
+    let mut pages = rest.page;
     pages[f] = page;
+    let mut reference = rest.reference;
+    reference[f] = call as u32;
     let reads = Reads(rest.reads.0 + 1);
     let writes_now = Writes(rest.writes.0 + writes);
     let mut next = rest;
     next.page = pages;
-    next.served = rest.served + 1;
+    next.reference = reference;
+    next.served = call;
     next.reads = reads;
     next.writes = writes_now;
     Freed {

@@ -13,7 +13,7 @@ use model::Answer;
 use order::PLACES;
 use pool::Pool;
 
-// The pool after a hit on a frame, with C, D and the target as they are then.
+// The pool after a hit on a frame, with C, D and the target as they are then. The call's number, the served count after it, is the frame's.
 fn hit(
     pool: Pool,
     clean: [u8; PLACES],
@@ -24,19 +24,25 @@ fn hit(
     frame: u8,
 ) -> Step
     requires { ⌜ Sound pool ⌝ }
+    requires { ⌜ frame < pool .frames ⌝ }
     ensures { λ r. ⌜ ((C D : List ℕ) (τ f : ℕ) → InPlaces clean cn C → InPlaces dirty dn D → target ≡ τ → frame ≡ f
         → r ≡ stepOf (hit f (withTarget τ (withLists (stateOf pool .lists .E) C D (stateOf pool))))) ⌝ }
 {
+    let call = pool.served + 1;
+    let f = frame as usize;
+    let mut reference = pool.reference;
+    reference[f] = call as u32;
     let mut next = pool;
     next.clean = clean;
     next.clean_len = cn;
     next.dirty = dirty;
     next.dirty_len = dn;
+    next.reference = reference;
     next.target = target;
-    next.served = pool.served + 1;
+    next.served = call;
     Step {
         pool: next,
-        frame: frame as usize,
+        frame: f,
         answer: Answer::Hit,
     }
 }

@@ -111,7 +111,7 @@ pub fn write(pool: Pool, read_cost: u64, write_cost: u64, page: usize) -> Step
     }
 }
 
-// A flush on a sound pool: all of D goes before C.
+// A flush on a sound pool: C becomes the merge of both lists, the latest reference first, and no number changes.
 pub fn flush_lists(pool: Pool) -> Pool
     requires { ⌜ Sound pool ⌝ }
     ensures { λ r. ⌜ r ≡ poolOf (flushed (stateOf pool)) ⌝ }
@@ -120,12 +120,13 @@ pub fn flush_lists(pool: Pool) -> Pool
     let dirty = pool.dirty;
     let cn = pool.clean_len;
     let dn = pool.dirty_len;
-    let all = order::put_before(dirty, dn, clean, cn);
+    let reference = pool.reference;
+    let all = order::merge(dirty, dn, clean, cn, reference);
     let none = [0u8; PLACES];
     let writes = Writes(pool.writes.0 + dn as u64);
     let mut next = pool;
     next.clean = all;
-    next.clean_len = cn + dn;
+    next.clean_len = dn + cn;
     next.dirty = none;
     next.dirty_len = 0;
     next.served = pool.served + 1;

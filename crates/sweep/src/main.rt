@@ -9,7 +9,6 @@ use calls::Left;
 use calls::TOTAL;
 use calls::chance;
 use calls::chance::World;
-use calls::digest;
 use calls::turns;
 use calls::turns::Plan;
 use calls::turns::Turn;

@@ -2,6 +2,7 @@
 use libc::STDOUT_FILENO;
 use model::Answer;
 use model::Costing;
+use model::Flushing;
 use model::Refusal;
 use model::Victim;
 
@@ -58,5 +59,37 @@ pub fn total(answer: Costing) {
     match answer {
         Costing::Refused(why) => also_refused(why),
         Costing::Total(cost) => number(cost),
+    }
+}
+
+// A victim by its kind and page, within a line.
+fn victim(victim: Victim) {
+    match victim {
+        Victim::None => {}
+        Victim::Clean(page) => {
+            word(b" clean");
+            number(page as u64);
+        }
+        Victim::Dirty(page) => {
+            word(b" dirty");
+            number(page as u64);
+        }
+    }
+}
+
+// What a read or a write answers, with the victim.
+pub fn answer(answer: Answer) {
+    result(answer);
+    victim(victim_of(answer));
+}
+
+// What a flush answers, within a line.
+pub fn flush(answer: Flushing) {
+    match answer {
+        Flushing::Refused(why) => also_refused(why),
+        Flushing::Wrote(pages) => {
+            word(b" wrote");
+            number(pages as u64);
+        }
     }
 }

@@ -28,7 +28,7 @@ returns c =
     let a = c .before .args in
     let s : State = opened (numbers (a .frames) (a .page-bytes) (a .pages) (a .read-cost) (a .write-cost)) in
     let pages = pad-zeros (a .frames) (c .before .pre) in
-    refilled-is (poolOf s) s (zeros (a .frames)) refl (c .all-frames .ensures) none-in-places none-in-places pages refl refl refl refl
+    refilled-is (poolOf s) s (zeros (a .frames)) (zeros (a .frames)) refl (c .all-frames .ensures) none-in-places none-in-places pages pages refl refl refl refl
 
 pub fresh-spec : {M : Type 1} → statement M
 fresh-spec = tie.close (tie.spec (λ c κs. search needs) returns)

@@ -15,15 +15,21 @@ returns-3 : tie.Need-returns-3
 returns-3 c r = test-refuted (c .before .zeros83 .ensures) (c .if3 .taken) (r .dirty)
 
 returns-4 : tie.Need-returns-4
-returns-4 c =
-    let a = c .before .before .before .before .before .before .before .args in
-    tails-last (a .e .now) (a .en) (a .c .now) (a .cn) (a .d .now) (a .dn) (a .page .now) (a .frames) _
-    (test-passed (c .before .before .before .before .before .before .zeros8 .ensures) (c .before .before .before .before .before .if1 .left))
-    (test-passed (c .before .before .before .before .zeros82 .ensures) (c .before .before .before .if2 .left))
-    (test-passed (c .before .before .zeros83 .ensures) (c .before .if3 .left))
-    (c .zeros16 .ensures)
+returns-4 c r = test-refuted (c .before .zeros16 .ensures) (c .if4 .taken) (r .pages)
+
+returns-5 : tie.Need-returns-5
+returns-5 c =
+    let pages = c .before in
+    let dirty = pages .before .before in
+    let clean = dirty .before .before in
+    let empty = clean .before .before in
+    let a = empty .before .before .args in
+    tails-last (a .e .now) (a .en) (a .c .now) (a .cn) (a .d .now) (a .dn) (a .page .now) (a .reference .now) (a .frames) _
+    (test-passed (empty .before .zeros8 .ensures) (empty .if1 .left)) (test-passed (clean .before .zeros82 .ensures) (clean .if2 .left))
+    (test-passed (dirty .before .zeros83 .ensures) (dirty .if3 .left)) (test-passed (pages .before .zeros16 .ensures) (pages .if4 .left))
+    (c .zeros32 .ensures)
 
 pub tails-right-spec : {M : Type 1} → statement M
 tails-right-spec =
     tie.close (tie.spec (λ c κs. search needs) returns (λ c κs. search needs) returns-2 (λ c κs. search needs) returns-3 (λ c κs. search needs)
-    returns-4)
+    returns-4 (λ c κs. search needs) returns-5)

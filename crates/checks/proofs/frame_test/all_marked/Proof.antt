@@ -8,7 +8,8 @@ use lib.ListN.{take, drop}
 use borrow.Author.Needs.{needs}
 use borrow.Author.Tests.{eq-eqb, ne-eqb}
 use Rattle.checks.specs.Tests.{every, isSome}
-use Rattle.checks.proofs.Every.{drop-take-next, drop-take-end, every-spoilt, every-kept, every-end}
+use Rattle.order.proofs.Lists.{drop-take-next, drop-take-end}
+use Rattle.checks.proofs.Every.{every-spoilt, every-kept, every-end}
 use Rattle.checks.proofs.frame_test.all_marked.Statement.{statement}
 use Rattle.checks.proofs.frame_test.all_marked.Tie as tie
 

@@ -5,7 +5,7 @@ use Prim.Native.Nat.{_-_, _≤_}
 use lib.ListN.{take, drop}
 use borrow.Author.Needs.{needs}
 use Rattle.checks.specs.Tests.{marked}
-use Rattle.checks.proofs.Every.{drop-take-next, drop-take-end}
+use Rattle.order.proofs.Lists.{drop-take-next, drop-take-end}
 use Rattle.checks.proofs.frame_test.mark.Statement.{statement}
 use Rattle.checks.proofs.frame_test.mark.Tie as tie
 

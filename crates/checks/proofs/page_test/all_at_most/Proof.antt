@@ -8,7 +8,8 @@ use lib.ListN.{take, drop}
 use borrow.Author.Needs.{needs}
 use borrow.Author.Tests.{le-leb, lt-leb}
 use Rattle.checks.specs.Tests.{every, isAtMost}
-use Rattle.checks.proofs.Every.{drop-take-next, drop-take-end, every-spoilt, every-kept, every-end}
+use Rattle.order.proofs.Lists.{drop-take-next, drop-take-end}
+use Rattle.checks.proofs.Every.{every-spoilt, every-kept, every-end}
 use Rattle.checks.proofs.page_test.all_at_most.Statement.{statement}
 use Rattle.checks.proofs.page_test.all_at_most.Tie as tie
 

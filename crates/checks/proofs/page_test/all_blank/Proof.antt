@@ -10,7 +10,8 @@ use lib.Dec.{eqb}
 use borrow.Author.Needs.{needs}
 use borrow.Author.Tests.{eq-eqb, ne-eqb}
 use Rattle.checks.specs.Tests.{blankAll}
-use Rattle.checks.proofs.Every.{drop-take-next, drop-take-end, every-spoilt, every-kept, every-end}
+use Rattle.order.proofs.Lists.{drop-take-next, drop-take-end}
+use Rattle.checks.proofs.Every.{every-spoilt, every-kept, every-end}
 use Rattle.checks.proofs.page_test.all_blank.Statement.{statement}
 use Rattle.checks.proofs.page_test.all_blank.Tie as tie
 

@@ -7,7 +7,8 @@ use native.Mathlib.Omega.{arith}
 use lib.ListN.{take, drop}
 use borrow.Author.Needs.{needs}
 use Rattle.order.specs.Count.{count}
-use Rattle.checks.proofs.Every.{drop-take-next, drop-take-end, tally-more, tally-same}
+use Rattle.order.proofs.Lists.{drop-take-next, drop-take-end}
+use Rattle.checks.proofs.Every.{tally-more, tally-same}
 use Rattle.checks.proofs.page_test.count_in.Statement.{statement}
 use Rattle.checks.proofs.page_test.count_in.Tie as tie
 

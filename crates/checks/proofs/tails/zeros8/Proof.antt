@@ -9,7 +9,8 @@ use borrow.Author.Needs.{needs}
 use borrow.Author.Tests.{eq-eqb, ne-eqb}
 use Rattle.order.specs.Places.{places}
 use Rattle.checks.specs.Tests.{every, isZero}
-use Rattle.checks.proofs.Every.{drop-next, every-spoilt, every-kept, every-end}
+use Rattle.order.proofs.Lists.{drop-next}
+use Rattle.checks.proofs.Every.{every-spoilt, every-kept, every-end}
 use Rattle.checks.proofs.tails.zeros8.Statement.{statement}
 use Rattle.checks.proofs.tails.zeros8.Tie as tie
 

@@ -20,7 +20,7 @@ fillable c =
 
 returns : tie.Need-returns
 returns c =
-    let w = c .before .before .before .before in
+    let w = c .before .before .before .before .before in
     let u = w .before .before .before in
     let k = u .choose in
     let l = fillable w in (
@@ -34,7 +34,10 @@ pub take-frame-spec : {M : Type 1} → statement M
 take-frame-spec =
     tie.close
     (tie.spec
-    choose-requires (λ c κs. search needs) (λ c κs. search needs) (λ c. search needs) (λ c. search needs)
-    (λ c. omega (arith, fillable (c .before) .frame)) (λ c. omega (arith, fillable (c .before .before) .reads))
-    (λ c. let l = fillable (c .before .before .before) in omega (arith, l .few, l .writes))
-    (λ c. omega (arith, fillable (c .before .before .before .before) .served)) returns)
+    choose-requires (λ c κs. search needs) (λ c κs. search needs)
+    (λ c. omega (arith, fillable (c .before) .served)) (λ c. search needs)
+    (λ c. omega (arith, fillable (c .before .before) .frame)) (λ c. fillable (c .before .before) .frame)
+    (λ c. omega (arith, fillable (c .before .before .before) .served)) (λ c. omega (arith, fillable (c .before .before .before) .frame))
+    (λ c. fillable (c .before .before .before) .frame)
+    (λ c. omega (arith, fillable (c .before .before .before .before) .reads))
+    (λ c. let l = fillable (c .before .before .before .before .before) in omega (arith, l .few, l .writes)) returns)

@@ -1,11 +1,13 @@
 -- `step::hit::in_dirty` meets its contract. D is held by its places with the frame at the front, and the target is the given one. Assumes nothing.
 use mathlib.Core.Path.{refl}
 use native.Mathlib.Omega.{arith}
-use borrow.Author.Needs.{needs}
 use Rattle.order.proofs.Places.{in-places-getD, front-in-places}
-use Rattle.pool.proofs.Form.{clean-in-places, dirty-in-places}
+use Rattle.pool.proofs.Form.{clean-in-places, dirty-in-places, dirty-frame}
 use Rattle.step.proofs.hit.in_dirty.Statement.{statement}
 use Rattle.step.proofs.hit.in_dirty.Tie as tie
+
+hit-requires : tie.Need-hit-requires
+hit-requires c κs = let u = c .before .before .before .pre in (u .0, dirty-frame _ (u .0) _ (u .1))
 
 returns : tie.Need-returns
 returns c =
@@ -19,4 +21,4 @@ in-dirty-spec =
     tie.close
     (tie.spec
     (λ c. omega (arith, dirty-in-places _ (c .before .before .pre .0) .fits)) (λ c κs. omega (arith, dirty-in-places _ (c .before .before .pre .0) .fits))
-    (λ c κs. search needs) returns)
+    hit-requires returns)

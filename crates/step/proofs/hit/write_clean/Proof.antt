@@ -4,7 +4,7 @@ use mathlib.Core.Path.{refl}
 use native.Mathlib.Omega.{arith}
 use borrow.Author.Needs.{needs}
 use Rattle.order.proofs.Places.{in-places-getD, remove-in-places}
-use Rattle.pool.proofs.Form.{clean-in-places}
+use Rattle.pool.proofs.Form.{clean-in-places, clean-frame}
 use Rattle.step.proofs.Hits.{dirty-room, dirty-longer}
 use Rattle.step.proofs.hit.write_clean.Statement.{statement}
 use Rattle.step.proofs.hit.write_clean.Tie as tie
@@ -20,6 +20,9 @@ add-hit c =
     let u = c .before .before .before .before .pre in
     omega (arith, dirty-room _ (u .0) (u .1))
 
+hit-requires : tie.Need-hit-requires
+hit-requires c κs = let u = c .before .before .before .before .pre in (u .0, clean-frame _ (u .0) _ (u .1))
+
 returns : tie.Need-returns
 returns c =
     let u = c .before .before .before .before .before .pre in
@@ -32,4 +35,4 @@ write-clean-spec =
     tie.close
     (tie.spec
     (λ c. omega (arith, clean-in-places _ (c .before .before .pre .0) .fits)) (λ c. search needs) take-out-requires put-front-requires
-    (λ c. search needs) add-hit (λ c κs. search needs) returns)
+    (λ c. search needs) add-hit hit-requires returns)
