@@ -17,7 +17,7 @@ use lib.Seq.{length-take-le, getD-take}
 use lib.Dec.{eqb, leb, ltb}
 use borrow.Author.Tests.{eqb-true, eq-eqb, ne-eqb, leb-true, le-leb, ltb-true, lt-ltb}
 use Rattle.order.specs.Count.{count}
-use Rattle.order.proofs.Count.{bit-same, bit-other}
+use Rattle.order.proofs.Count.{bit-same, count-cons}
 use Rattle.checks.specs.Tests.{every, everyBelow}
 use Rattle.checks.proofs.Every.{every-means, every-of}
 
@@ -75,7 +75,7 @@ module _ {t : ℕ → Bool} {A : ℕ → Type 0} (d : (f : ℕ) → Exact (t f) 
   exact-every [] = record { means = λ e f h. absurd (not-suc-le-zero h); test = λ x. refl }
   exact-every (x ∷ xs) =
       exact-iff
-      (λ y f h. dite (ℕ-discrete x f) (λ e. rw (← e) (y .0)) (λ n. y .1 f (omega (arith, bit-other x f n))))
+      (λ y. count-cons A x xs (y .0) (y .1))
       (λ y. (y x (omega (arith, bit-same x)), λ f h. y f (omega arith)))
       (exact-and (d x) (exact-every xs))
 

@@ -1,6 +1,6 @@
 -- CASA's requests and flushes are steps on frames, and keep a state good. A hit moves a frame within C and D, so each frame is resident as often as before and
--- pages stay where they are. On a fault the chosen frame leaves its list and comes back to C or D with a page that no frame had. All by counts. The frame of a request
--- has the largest number and goes to a front, and a merge keeps the order, so numbers still fall.
+-- pages stay where they are. On a fault the chosen frame leaves its list and comes back to C or D with a page that no frame had. All by counts. The frame of a
+-- request has the largest number and goes to a front, and a merge keeps the order, so numbers still fall.
 --     locate-right, chosen-in    a page is where it is found, and the chosen place is one of its list
 --     request-stepped, flush-stepped    what a request and a flush do to frames, and that the state stays good
 --     states-framed    so CASA's states are framed
@@ -23,7 +23,7 @@ use Rattle.order.specs.declared.Found.{Found}
 use Rattle.order.specs.declared.Found.the-variants.{At, Nowhere}
 use Rattle.order.proofs.Search.{findFrom-below, findFrom-at, findFrom-none}
 use Rattle.order.specs.Merge.{Ordered}
-use Rattle.order.proofs.Count.{bit-same, bit-other, count-removeAt, count-moveToFront, count-other, count-here}
+use Rattle.order.proofs.Count.{bit-same, bit-other, count-removeAt, count-moveToFront, count-other, count-alone, count-here}
 use Rattle.order.proofs.Merged.{count-merged, ordered-swap, ordered-removeAt}
 use Rattle.model.specs.Numbers.{Numbers, unit, mostServed}
 use Rattle.model.specs.Target.{Costs, up, down, adjust, aboveTarget}
@@ -209,19 +209,13 @@ module _ (s : State) (w : Whole s) (q : ℕ) (q-inside : q < s .numbers .N) (mor
       o = w .good .numbered .ordered
 
       -- the frame at a place of C stands there alone, and so does that of D
-      once-clean : (i : ℕ) → i < length (s .lists .C)
+      clean-alone : (i : ℕ) → i < length (s .lists .C)
           → (count (getD (s .lists .C) i 0) (removeAt i (s .lists .C)) ≡ 0) × (count (getD (s .lists .C) i 0) (s .lists .D) ≡ 0)
-      once-clean i h =
-          let f : ℕ = getD (s .lists .C) i 0 in
-          let c = count-removeAt f (s .lists .C) i h in
-          (omega (arith, c, bit-same f, standing-once s (w .good) f), omega (arith, c, bit-same f, standing-once s (w .good) f))
+      clean-alone = count-alone (s .lists .C) (s .lists .D) (λ f. omega (arith, standing-once s (w .good) f))
 
-      once-dirty : (i : ℕ) → i < length (s .lists .D)
+      dirty-alone : (i : ℕ) → i < length (s .lists .D)
           → (count (getD (s .lists .D) i 0) (removeAt i (s .lists .D)) ≡ 0) × (count (getD (s .lists .D) i 0) (s .lists .C) ≡ 0)
-      once-dirty i h =
-          let f : ℕ = getD (s .lists .D) i 0 in
-          let c = count-removeAt f (s .lists .D) i h in
-          (omega (arith, c, bit-same f, standing-once s (w .good) f), omega (arith, c, bit-same f, standing-once s (w .good) f))
+      dirty-alone = count-alone (s .lists .D) (s .lists .C) (λ f. omega (arith, standing-once s (w .good) f))
 
       -- a frame of D goes to its front
       dirty-front : (i : ℕ) → i < length (s .lists .D)
@@ -229,20 +223,20 @@ module _ (s : State) (w : Whole s) (q : ℕ) (q-inside : q < s .numbers .N) (mor
       dirty-front i h =
           let f : ℕ = getD (s .lists .D) i 0 in
           let c = count-here (s .lists .D) i h in
-          dirty-latest (ordered-swap (ordered-removeAt (ordered-swap o) i h)) f (numbered-frame f (omega arith)) (once-dirty i h .1) (once-dirty i h .0)
+          dirty-latest (ordered-swap (ordered-removeAt (ordered-swap o) i h)) f (numbered-frame f (omega arith)) (dirty-alone i h .1) (dirty-alone i h .0)
 
       go : (op : Op) (x : Place) → PlaceRight s q x → CasaStepped op s q (requestAt op k s q x)
       go Read (InClean i) p =
           let c = count-here (s .lists .C) i (p .0) in
           hit-stepped Read (moveToFront i (s .lists .C)) (s .lists .D) (adjust (s .numbers .b) (s .target) (up k (length (s .lists .C)) (length (s .lists .D))))
           _ (omega arith) (p .1) (λ h. omega (arith, count-moveToFront h (s .lists .C) i (p .0))) refl (λ h n. refl)
-          (clean-latest (ordered-removeAt o i (p .0)) _ (numbered-frame _ (omega arith)) (once-clean i (p .0) .0) (once-clean i (p .0) .1)) (min-le-right _ _)
+          (clean-latest (ordered-removeAt o i (p .0)) _ (numbered-frame _ (omega arith)) (clean-alone i (p .0) .0) (clean-alone i (p .0) .1)) (min-le-right _ _)
       go Write (InClean i) p =
           let f : ℕ = getD (s .lists .C) i 0 in
           let c = count-here (s .lists .C) i (p .0) in
           hit-stepped Write (removeAt i (s .lists .C)) (f ∷ s .lists .D) (s .target) f
           (omega arith) (p .1) (λ h. omega (arith, count-removeAt h (s .lists .C) i (p .0))) (omega (arith, bit-same f)) (λ h n. omega (arith, bit-other f h n))
-          (dirty-latest (ordered-removeAt o i (p .0)) f (numbered-frame f (omega arith)) (once-clean i (p .0) .0) (once-clean i (p .0) .1)) (w .good .target-high)
+          (dirty-latest (ordered-removeAt o i (p .0)) f (numbered-frame f (omega arith)) (clean-alone i (p .0) .0) (clean-alone i (p .0) .1)) (w .good .target-high)
       go Write (InDirty i) p =
           let f : ℕ = getD (s .lists .D) i 0 in
           let c = count-here (s .lists .D) i (p .0) in

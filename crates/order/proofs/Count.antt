@@ -1,7 +1,7 @@
 -- Laws of how often a number stands in a list.
 --     bit-same, bit-other    the test of one element
---     count-append, count-removeAt, count-moveToFront, count-other    a list put together and taken apart
---     count-here, count-place, count-below    what stands in a list counts there, and what counts stands there
+--     count-append, count-cons, count-removeAt, count-moveToFront, count-other    a list put together and taken apart
+--     count-alone, count-here, count-place, count-below    what stands in a list counts there, and what counts stands there
 --     count-downFrom-below, count-downFrom-above    the numbers below b, each once
 --     count-length-le, count-length, count-once    the pigeonhole: b numbers below b, none of them twice, are all of them
 -- Assumes nothing.
@@ -29,6 +29,10 @@ pub count-append : (f : ℕ) (xs ys : List ℕ) → count f (xs ++ ys) ≡ count
 count-append f [] ys = omega arith
 count-append f (x ∷ xs) ys = omega (arith, count-append f xs ys)
 
+-- what counts in a list is its first, or one of the others
+pub count-cons : (P : ℕ → Type 0) (x : ℕ) (xs : List ℕ) → P x → ((f : ℕ) → 1 ≤ count f xs → P f) → (f : ℕ) → 1 ≤ count f (x ∷ xs) → P f
+count-cons P x xs first others f c = dite (ℕ-discrete x f) (λ e. rw e at first) (λ n. others f (omega (arith, bit-other x f n)))
+
 -- ---- one place
 
 pub count-removeAt : (f : ℕ) (xs : List ℕ) (i : ℕ) → i < length xs → bit (eqb (getD xs i 0) f) + count f (removeAt i xs) ≡ count f xs
@@ -41,6 +45,14 @@ count-moveToFront = count-removeAt
 
 pub count-other : (f : ℕ) (xs : List ℕ) (i : ℕ) → i < length xs → getD xs i 0 ≢ f → count f (removeAt i xs) ≡ count f xs
 count-other f xs i h n = omega (arith, count-removeAt f xs i h, bit-other (getD xs i 0) f n)
+
+-- where two lists have a number once at the most, what stands at a place stands nowhere else
+pub count-alone : (xs ys : List ℕ) → ((f : ℕ) → count f xs + count f ys ≤ 1) → (i : ℕ) → i < length xs
+    → (count (getD xs i 0) (removeAt i xs) ≡ 0) × (count (getD xs i 0) ys ≡ 0)
+count-alone xs ys once i h =
+    let f : ℕ = getD xs i 0 in
+    let c = count-removeAt f xs i h in
+    (omega (arith, c, bit-same f, once f), omega (arith, c, bit-same f, once f))
 
 pub count-here : (xs : List ℕ) (i : ℕ) → i < length xs → 1 ≤ count (getD xs i 0) xs
 count-here xs i h = omega (arith, count-removeAt (getD xs i 0) xs i h, bit-same (getD xs i 0))

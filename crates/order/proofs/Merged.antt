@@ -27,15 +27,11 @@ use Rattle.order.specs.Places.{places, InPlaces}
 use Rattle.order.specs.Merge.{Under, Falls, merged, takesFirst, Ordered}
 use Rattle.order.proofs.Lists.{drop-take-next, drop-take-end}
 use Rattle.order.proofs.Places.{turn-in-places, rest-in-places}
-use Rattle.order.proofs.Count.{bit-same, bit-other, count-removeAt, count-here}
+use Rattle.order.proofs.Count.{bit-same, bit-other, count-cons, count-removeAt, count-here}
 
 module _ (reference : List ℕ) where
   abbrev number : ℕ → ℕ
   number f = getD reference f 0
-
-  -- a frame of a list is its first, or one of the others
-  first-or : (P : ℕ → Type 0) (x : ℕ) (xs : List ℕ) → P x → ((f : ℕ) → 1 ≤ count f xs → P f) → (f : ℕ) → 1 ≤ count f (x ∷ xs) → P f
-  first-or P x xs h t f c = dite (ℕ-discrete x f) (λ e. rw e at h) (λ n. t f (omega (arith, bit-other x f n)))
 
   -- ---- one list
 
@@ -187,7 +183,7 @@ module _ (reference : List ℕ) where
 
   -- a list that falls is under what is above its first
   under-first : {n : ℕ} (x : ℕ) (xs : List ℕ) → Falls reference (x ∷ xs) → number x < n → Under reference n (x ∷ xs)
-  under-first {n} x xs h l = first-or (λ f. number f < n) x xs l (under-less xs xs (h .0) (omega arith) (λ f. omega arith))
+  under-first {n} x xs h l = count-cons (λ f. number f < n) x xs l (under-less xs xs (h .0) (omega arith) (λ f. omega arith))
 
   pub falls-merged : (xs ys : List ℕ) → Falls reference xs → Falls reference ys → Apart xs ys → Falls reference (merged reference xs ys)
   falls-merged [] ys a b p = b
@@ -210,14 +206,14 @@ module _ (reference : List ℕ) where
       let u : (f : ℕ) → 1 ≤ count f xs + count f (y ∷ ys) → number f < number x = λ f c. h .0 f (omega (arith, count-merged f xs (y ∷ ys))) in (
         (λ f c. u f (omega arith), r .0),
         r .1,
-        λ f g c d. first-or (λ z. number z ≢ number g) x xs (λ e. omega (arith, u g (omega arith))) (λ z k. r .2 z g k d) f c,
+        λ f g c d. count-cons (λ z. number z ≢ number g) x xs (λ e. omega (arith, u g (omega arith))) (λ z k. r .2 z g k d) f c,
       ))
       (λ l h.
       let r = merged-falls (x ∷ xs) ys (h .1) in
       let u : (f : ℕ) → 1 ≤ count f (x ∷ xs) + count f ys → number f < number y = λ f c. h .0 f (omega (arith, count-merged f (x ∷ xs) ys)) in (
         r .0,
         (λ f c. u f (omega arith), r .1),
-        λ f g c d. first-or (λ z. number f ≢ number z) y ys (λ e. omega (arith, u f (omega arith))) (λ z k. r .2 f z c k) g d,
+        λ f g c d. count-cons (λ z. number f ≢ number z) y ys (λ e. omega (arith, u f (omega arith))) (λ z k. r .2 f z c k) g d,
       ))
 
 -- ---- a merge in its places
@@ -270,7 +266,8 @@ module _ (reference first : List ℕ) (m : ℕ) (second : List ℕ) (n : ℕ) (l
 
 -- ---- other numbers
 
-pub merged-same : (reference other : List ℕ) → ((f : ℕ) → getD other f 0 ≡ getD reference f 0) → (xs ys : List ℕ) → merged other xs ys ≡ merged reference xs ys
+pub merged-same : (reference other : List ℕ) → ((f : ℕ) → getD other f 0 ≡ getD reference f 0) → (xs ys : List ℕ)
+    → merged other xs ys ≡ merged reference xs ys
 merged-same reference other e [] ys = refl
 merged-same reference other e (x ∷ xs) [] = refl
 merged-same reference other e (x ∷ xs) (y ∷ ys) =
@@ -287,7 +284,8 @@ falls-same reference other (x ∷ xs) e h = (
 
 -- ---- two lists by falling numbers
 
-pub ordered-same : (reference other : List ℕ) (top : ℕ) (xs ys : List ℕ) → ((f : ℕ) → 1 ≤ count f xs + count f ys → getD other f 0 ≡ getD reference f 0)
+pub ordered-same : (reference other : List ℕ) (top : ℕ) (xs ys : List ℕ)
+    → ((f : ℕ) → 1 ≤ count f xs + count f ys → getD other f 0 ≡ getD reference f 0)
     → Ordered reference top xs ys → Ordered other top xs ys
 ordered-same reference other top xs ys e o =
     record {
@@ -330,13 +328,16 @@ module _ {reference : List ℕ} {top : ℕ} {xs ys : List ℕ} (o : Ordered refe
   pub ordered-latest : (f : ℕ) → f < length reference → count f xs ≡ 0 → count f ys ≡ 0 → Ordered (set reference f (top + 1)) (top + 1) (f ∷ xs) ys
   ordered-latest f l a b =
       record {
-        first-falls = (λ g c. omega (arith, here, o .high g (omega arith), off g (omega arith)), falls-same reference other xs (λ g c. off g (omega arith)) (o .first-falls));
+        first-falls = (
+          λ g c. omega (arith, here, o .high g (omega arith), off g (omega arith)),
+          falls-same reference other xs (λ g c. off g (omega arith)) (o .first-falls),
+        );
         second-falls = falls-same reference other ys (λ g c. off g (omega arith)) (o .second-falls);
         apart = λ g h c d.
-            first-or other (λ z. getD other z 0 ≢ getD other h 0) f xs (λ e. omega (arith, here, o .high h (omega arith), off h (omega arith)))
+            count-cons (λ z. getD other z 0 ≢ getD other h 0) f xs (λ e. omega (arith, here, o .high h (omega arith), off h (omega arith)))
             (λ z k e. o .apart z h k d (sym (off z (omega arith)) ∙ e ∙ off h (omega arith))) g c;
-        low = λ g c. dite (ℕ-discrete f g) (λ e. rw (← e) (omega (arith, here))) (λ n. omega (arith, o .low g (omega (arith, bit-other f g n)), off g (omega (arith, bit-other f g n))));
-        high = λ g c. dite (ℕ-discrete f g) (λ e. rw (← e) (omega (arith, here))) (λ n. omega (arith, o .high g (omega (arith, bit-other f g n)), off g (omega (arith, bit-other f g n))));
+        low = λ g c. dite (decLt 0 (count g xs + count g ys)) (λ k. omega (arith, o .low g k, off g k)) (λ n. omega (arith, itself g c n));
+        high = λ g c. dite (decLt 0 (count g xs + count g ys)) (λ k. omega (arith, o .high g k, off g k)) (λ n. omega (arith, itself g c n));
       }
     where
       other : List ℕ
@@ -344,6 +345,10 @@ module _ {reference : List ℕ} {top : ℕ} {xs ys : List ℕ} (o : Ordered refe
 
       here : getD other f 0 ≡ top + 1
       here = getD-set-same reference f (top + 1) 0 l
+
+      -- what stands in neither list is the frame
+      itself : (g : ℕ) → 1 ≤ count g (f ∷ xs) + count g ys → (1 ≤ count g xs + count g ys → ⊥) → getD other g 0 ≡ top + 1
+      itself g c n = dite (ℕ-discrete f g) (λ e. rw (← e) here) (λ d. absurd (n (omega (arith, bit-other f g d))))
 
       off : (g : ℕ) → 1 ≤ count g xs + count g ys → getD other g 0 ≡ getD reference g 0
       off g c = getD-set-other reference f g (top + 1) 0 (λ e. let z : count g xs + count g ys ≡ 0 = rw e (omega arith) in omega arith)

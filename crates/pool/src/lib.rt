@@ -1,4 +1,5 @@
-// The pool, the test whether it is sound, and a fresh one. The test takes any values at all, and reads each list, the pages and the reference numbers a fixed number of times.
+// The pool, the test whether it is sound, and a fresh one. The test takes any values at all, and reads each list, the pages and the reference numbers a fixed
+// number of times.
 ghost use mathlib.Core.Path.{_≡_};
 ghost use Prim.Native.Nat.{_+_, _≤_};
 ghost use lib.ListN.{length};

@@ -1,21 +1,19 @@
 -- Laws of the test of numbers that fall.
---     falls-spoilt, falls-kept, falls-zero, falls-through    one turn of a loop down a list, and its end
---     falls-next, falls-stop    one turn of a loop down a merge, which may stop
+--     falls-spoilt, falls-kept, falls-zero, falls-through    one turn of a loop down a list or a merge, and its end
 --     fallsFrom-exact, merge-exact    what the test finds out of a list, and of two by their merge
 -- Assumes nothing.
 use mathlib.Core.Path.{_≡_, sym, _∙_}
 use mathlib.Core.Bool.{Bool, false, _&&_, and-true, and-false}
-use mathlib.Core.Logic.{_≢_, dite}
+use mathlib.Core.Logic.{_≢_}
 use mathlib.Core.List.{List, [], _∷_}
 use Prim.Native.Nat.{ℕ, _+_, _≤_, _<_}
 use native.Mathlib.Nat.{pos-of-ne-zero}
-use native.Mathlib.Decide.{ℕ-discrete}
 use native.Mathlib.Omega.{arith}
 use lib.ListN.{getD}
 use borrow.Author.Tests.{lt-ltb, le-ltb}
 use Rattle.order.specs.Count.{count}
 use Rattle.order.specs.Merge.{Under, Falls, merged, Ordered}
-use Rattle.order.proofs.Count.{bit-same, bit-other}
+use Rattle.order.proofs.Count.{bit-same, count-cons}
 use Rattle.order.proofs.Merged.{ordered-merged, merged-ordered}
 use Rattle.checks.proofs.Exact.{Exact, exact-iff, exact-and, exact-ltb}
 use Rattle.recency.specs.Recency.{fallsFrom}
@@ -27,12 +25,6 @@ module _ (reference : List ℕ) where
   -- ---- one turn: frame f is next, with number v, behind one of number `last`
 
   module _ {xs rest : List ℕ} {f v last : ℕ} (e : xs ≡ f ∷ rest) (h : v ≡ number f) where
-    pub falls-stop : {all : Bool} → last ≤ v → fallsFrom reference last xs ≡ all → false ≡ all
-    falls-stop l k = sym (rw (e, le-ltb (number f) last (rw h at l))) ∙ k
-
-    pub falls-next : {all : Bool} → v < last → fallsFrom reference last xs ≡ all → fallsFrom reference v rest ≡ all
-    falls-next l k = rw h (sym (rw (e, lt-ltb (number f) last (rw h at l))) ∙ k)
-
     module _ (ok all : Bool) (k : (ok && fallsFrom reference last xs) ≡ all) where
       pub falls-spoilt : last ≤ v → false ≡ all
       falls-spoilt l = sym (rw (e, le-ltb (number f) last (rw h at l), and-false)) ∙ k
@@ -68,9 +60,9 @@ module _ (reference : List ℕ) where
       (λ y.
       record {
         some = omega (arith, y .0);
-        under = λ f c. dite (ℕ-discrete x f) (λ e. rw (← e) (y .0)) (λ m. omega (arith, y .0, y .1 .under f (omega (arith, bit-other x f m))));
+        under = count-cons (λ f. number f < n) x xs (y .0) (λ f c. omega (arith, y .0, y .1 .under f c));
         falls = (y .1 .under, y .1 .falls);
-        low = λ f c. dite (ℕ-discrete x f) (λ e. rw (← e) (y .1 .some)) (λ m. y .1 .low f (omega (arith, bit-other x f m)));
+        low = count-cons (λ f. 1 ≤ number f) x xs (y .1 .some) (y .1 .low);
       })
       (λ y. (
         y .under x (omega (arith, bit-same x)),

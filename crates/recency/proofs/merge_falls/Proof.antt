@@ -1,6 +1,7 @@
 -- `recency::merge_falls` meets its contract. The loop's invariant: that the numbers of what is left of the merge fall from below the last one says what is
 -- asked of the whole merge. Where one list is through, the other is what is left. The measure is how many frames are left. Assumes nothing.
 use mathlib.Core.Path.{_≡_, refl, sym, ap, _∙_}
+use mathlib.Core.Bool.{true}
 use mathlib.Core.List.{_∷_}
 use Prim.Native.Nat.{_+_, _-_, _≤_, _<_}
 use lib.ListN.{getD, take, drop}
@@ -8,7 +9,7 @@ use borrow.Author.Needs.{needs}
 use Rattle.order.specs.Merge.{merged}
 use Rattle.order.proofs.Merged.{rest-first, rest-second, rest-takes-first, rest-takes-second}
 use Rattle.recency.specs.Recency.{fallsFrom}
-use Rattle.recency.proofs.Falling.{falls-stop, falls-next}
+use Rattle.recency.proofs.Falling.{falls-spoilt, falls-kept}
 use Rattle.recency.proofs.merge_falls.Statement.{statement}
 use Rattle.recency.proofs.merge_falls.Tie as tie
 
@@ -75,25 +76,25 @@ returns-2 : tie.Need-returns-2 Inv-loop μ-loop
 returns-2 c =
     let u = c .before .before in
     let l = u .before .before .before .before .loop in
-    falls-stop (start u .args .reference .now) (clean-next u (c .before .if2 .taken)) (u .before .number-at .ensures) (c .if3 .taken) (l .inv)
+    falls-spoilt (start u .args .reference .now) (clean-next u (c .before .if2 .taken)) (u .before .number-at .ensures) true _ (l .inv) (c .if3 .taken)
 
 loop-again : tie.Need-loop-again Inv-loop μ-loop
 loop-again c =
     let u = c .before .before in
     let l = u .before .before .before .before .loop in
-    falls-next (start u .args .reference .now) (clean-next u (c .before .if2 .taken)) (u .before .number-at .ensures) (c .if3 .left) (l .inv)
+    falls-kept (start u .args .reference .now) (clean-next u (c .before .if2 .taken)) (u .before .number-at .ensures) true _ (l .inv) (c .if3 .left)
 
 returns-3 : tie.Need-returns-3 Inv-loop μ-loop
 returns-3 c =
     let u = c .before .before in
     let l = u .before .before .before .before .loop in
-    falls-stop (start u .args .reference .now) (dirty-next u (c .before .if2 .left)) (u .number-at2 .ensures) (c .if4 .taken) (l .inv)
+    falls-spoilt (start u .args .reference .now) (dirty-next u (c .before .if2 .left)) (u .number-at2 .ensures) true _ (l .inv) (c .if4 .taken)
 
 loop-again-2 : tie.Need-loop-again-2 Inv-loop μ-loop
 loop-again-2 c =
     let u = c .before .before in
     let l = u .before .before .before .before .loop in
-    falls-next (start u .args .reference .now) (dirty-next u (c .before .if2 .left)) (u .number-at2 .ensures) (c .if4 .left) (l .inv)
+    falls-kept (start u .args .reference .now) (dirty-next u (c .before .if2 .left)) (u .number-at2 .ensures) true _ (l .inv) (c .if4 .left)
 
 returns-4 : tie.Need-returns-4 Inv-loop μ-loop
 returns-4 c =
