@@ -1,10 +1,11 @@
 /* driver LOAD b P N n SEED SERVED: makes a load of n calls behind a warm-up and serves it, or with SERVED 0 the warm-up alone, for counting instructions. The
    difference between the two, for two values of n, is what the calls cost, without the making of the load.
-   Loads: trace (80 % of reads go to hot pages), front, last, spread (read hits at the front, at the last place, uniform), clean, dirty (faults), flush
-   (b writes and a flush each), sound (totals), mixed (totals where C and D take turns down the reference numbers), and those of the recorder, in records.c.
+   Loads: trace (80 % of reads go to hot pages), a number (read hits at this place of C, or at its last), spread (read hits, uniform), refused (reads of page
+   N), clean, dirty (faults), flush (b writes and a flush each), sound (totals), mixed (totals where C and D take turns down the reference numbers), and those of the recorder, in records.c.
    Another SEED than 0 draws other pages. */
 #include "bench.h"
 #include "random.h"
+#include <ctype.h>
 #include <stdio.h>
 #include <stdlib.h>
 #include <string.h>
@@ -36,15 +37,17 @@ int main(int argc, char **argv)
     u64 stride = N / (2 * b) ? N / (2 * b) : 1, dirty = !strcmp(load, "dirty") || !strcmp(load, "flush"), mixed = !strcmp(load, "mixed");
     for (u64 i = 0; i < b; i++)
         add(dirty || (mixed && i % 2), i * stride % N + (N > 1024 ? next() % stride : 0));
-    u64 warm = made;
+    u64 warm = made, place = strtoull(load, 0, 10);
+    if (place > b - 1)
+        place = b - 1;
     for (u64 i = 0; i < n; i++) {
         u64 hot = next() % 10 < 8;
         if (!strcmp(load, "trace"))
             add(0, hot ? pages[next() % (b - b / 4 ? b - b / 4 : 1)] : next() % N);
-        else if (!strcmp(load, "front"))
-            add(0, pages[warm - 1]);
-        else if (!strcmp(load, "last"))
-            add(0, pages[i % b]);
+        else if (isdigit((u8)load[0])) /* of the pages that stand up to this place, the last one each time */
+            add(0, pages[warm - 1 - place + i % (place + 1)]);
+        else if (!strcmp(load, "refused"))
+            add(0, N);
         else if (!strcmp(load, "spread"))
             add(0, pages[next() % b]);
         else if (!strcmp(load, "clean"))

@@ -1,5 +1,6 @@
 -- Laws of plain lists.
 --     hole-down, hole-up, hole-fill    a shift moves a hole: without the place of the hole the list stays the same, and a store at the hole ends it
+--     front-stays    what stands first is at the front
 --     removeAt-append, removeAt-seam, insertAt-seam    taking out of and putting into two lists, one behind the other
 --     removeAt-length, downFrom-length    how long a list is
 --     drop-next, drop-take-next, drop-take-end    what a loop at place i has still to read: the element there and what is behind it, or nothing
@@ -12,7 +13,7 @@ use native.Mathlib.Numerals.{add-one}
 use native.Mathlib.Omega.{arith}
 use lib.ListN.{length, getD, set, take, drop, length-take, drop-of-length-le}
 use lib.Seq.{drop-cons, getD-take}
-use Rattle.order.specs.Lists.{removeAt, insertAt, downFrom}
+use Rattle.order.specs.Lists.{removeAt, insertAt, moveToFront, downFrom}
 
 -- ---- a hole
 
@@ -39,6 +40,12 @@ pub hole-fill : (xs : List ℕ) (i x : ℕ) → i < length xs → set xs i x ≡
 hole-fill [] i x h = absurd (not-suc-le-zero h)
 hole-fill (y ∷ xs) zero x h = refl
 hole-fill (y ∷ xs) (suc i) x h = ap (λ (r : List ℕ). y ∷ r) (hole-fill xs i x (le-of-suc-le-suc h))
+
+-- ---- what stands first
+
+pub front-stays : (xs : List ℕ) (i : ℕ) → i ≡ 0 → 0 < length xs → xs ≡ moveToFront i xs
+front-stays [] i z h = absurd (not-suc-le-zero h)
+front-stays (x ∷ xs) i z h = rw z refl
 
 -- ---- two lists, one behind the other
 

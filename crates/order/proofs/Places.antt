@@ -1,6 +1,6 @@
 -- Laws of a list in 64 places: what an operation on the places does to the list that they hold.
 --     pad-length, pad-set, pad-getD    a padded list
---     none-in-places, in-places-take, in-places-getD    the empty list, and what is read out of the places
+--     none-in-places, in-places-length, in-places-take, in-places-getD    the empty list, and what is read out of the places
 --     front-in-places, remove-in-places, cons-in-places, tail-in-places    an operation on the places is one on the list
 --     turn-in-places, rest-in-places    places are filled with a list, one after the other
 -- Assumes nothing.
@@ -62,6 +62,9 @@ pub none-in-places : InPlaces (replicate places 0) 0 []
 none-in-places = record { is = refl; len = refl; fits = omega arith }
 
 module _ {list : List ℕ} {n : ℕ} {xs : List ℕ} (h : InPlaces list n xs) where
+  pub in-places-length : length list ≡ places
+  in-places-length = rw (h .is) (pad-length xs (omega (arith, h .len, h .fits)))
+
   pub in-places-take : take n list ≡ xs
   in-places-take = rw (h .is, ← (h .len)) (take-append-seam xs _)
 

@@ -1,5 +1,5 @@
 // Lists of frame numbers by last use, the most recent first: up to 64 of them in fixed places, with a length beside them.
-// Every operation takes the places and gives them back; what they mean on plain lists is said by the laws on `InPlaces`.
+// A list is changed where it stands, in the places that have to change and no others; what that means on plain lists is said by the laws on `InPlaces`.
 ghost use mathlib.Core.Path.{_≡_};
 ghost use mathlib.Core.List.{_∷_};
 ghost use Prim.Native.Nat.{ℕ, _+_, _-_, _≤_, _<_};
@@ -53,51 +53,51 @@ pub fn stands_before(page: &[u16; PLACES], end: usize, q: u16) -> bool
 
 // What stands at `from` goes out, what stands before it moves up by one place, and `x` goes to the front.
 // With `from` the length of the list, nothing but a free place goes out.
-pub fn put_front(list: [u8; PLACES], from: usize, x: u8) -> [u8; PLACES]
+pub fn put_front(list: &mut [u8; PLACES], from: usize, x: u8)
+    requires { ⌜ length (now list) ≡ places ⌝ }
     requires { ⌜ from < places ⌝ }
-    ensures { λ r. ⌜ r ≡ x ∷ removeAt from list ⌝ }
+    ensures { λ _. ⌜ now (list .exit) ≡ x ∷ removeAt from (now (list .entry)) ⌝ }
 {
-    let mut r = list;
     let mut i = from;
     while 0 < i {
-        r[i] = r[i - 1];
+        list[i] = list[i - 1];
         i -= 1;
     }
-    r[0] = x;
-    r
+    list[0] = x;
 }
 
-// What stands at `at` goes to the front, and what stands before it moves up by one place.
-pub fn move_to_front(list: [u8; PLACES], at: usize) -> [u8; PLACES]
+// What stands at `at` goes to the front, and what stands before it moves up by one place. What stands first stays, and nothing moves.
+pub fn move_to_front(list: &mut [u8; PLACES], at: usize)
+    requires { ⌜ length (now list) ≡ places ⌝ }
     requires { ⌜ at < places ⌝ }
-    ensures { λ r. ⌜ r ≡ moveToFront at list ⌝ }
+    ensures { λ _. ⌜ now (list .exit) ≡ moveToFront at (now (list .entry)) ⌝ }
 {
-    put_front(list, at, list[at])
+    if 0 < at {
+        let x = list[at];
+        put_front(list, at, x);
+    }
 }
 
 // What stands at `at` goes out of a list whose last place is `last`, what stands after it moves down, and `last` is free.
-pub fn take_out(list: [u8; PLACES], at: usize, last: usize) -> [u8; PLACES]
+pub fn take_out(list: &mut [u8; PLACES], at: usize, last: usize)
+    requires { ⌜ length (now list) ≡ places ⌝ }
     requires { ⌜ (at ≤ last) × (last < places) ⌝ }
-    ensures { λ r. ⌜ r ≡ insertAt last 0 (removeAt at list) ⌝ }
+    ensures { λ _. ⌜ now (list .exit) ≡ insertAt last 0 (removeAt at (now (list .entry))) ⌝ }
 {
-    let mut r = list;
     let mut i = at;
     while i < last {
-        r[i] = r[i + 1];
+        list[i] = list[i + 1];
         i += 1;
     }
-    r[last] = 0;
-    r
+    list[last] = 0;
 }
 
 // x goes behind the last of n.
-pub fn put_tail(list: [u8; PLACES], n: usize, x: u8) -> [u8; PLACES]
+pub fn put_tail(list: &mut [u8; PLACES], n: usize, x: u8)
     requires { ⌜ n < places ⌝ }
-    ensures { λ r. ⌜ r ≡ set list n x ⌝ }
+    ensures { λ _. ⌜ now (list .exit) ≡ set (now (list .entry)) n x ⌝ }
 {
-    let mut r = list;
-    r[n] = x;
-    r
+    list[n] = x;
 }
 
 // Whether a merge takes the next frame from the first list, at place i of m, and not from the second, at place j of n: the later one goes first.
@@ -162,8 +162,7 @@ pub fn all_frames(n: usize) -> [u8; PLACES]
     let mut list = [0u8; PLACES];
     let mut k = 0;
     while k < n {
-        let next = put_front(list, k, k as u8);
-        list = next;
+        put_front(&mut list, k, k as u8);
         k += 1;
     }
     list

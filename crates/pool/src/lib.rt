@@ -37,9 +37,6 @@ pub struct Pool {
     pub dirty_len: usize,
     // The page of each frame: below N and in no other frame; 0 of an empty frame, and in the places past the frames.
     pub page: [u16; PLACES],
-    // The reference number of each frame: that of the served call that last read or wrote its page, from 1 to the served calls and in no other frame, and
-    // falling down C and down D; 0 of an empty frame, and in the places past the frames.
-    pub reference: [u32; PLACES],
     // The target in units, 65,536 to a page: at most b × 65,536.
     pub target: u64,
     // The calls served since opening: at most 1,000,000,000.
@@ -47,6 +44,9 @@ pub struct Pool {
     // nR, at most the served calls, and nW, at most b times as many.
     pub reads: Reads,
     pub writes: Writes,
+    // The reference number of each frame: that of the served call that last read or wrote its page, from 1 to the served calls and in no other frame, and
+    // falling down C and down D; 0 of an empty frame, and in the places past the frames.
+    pub reference: [u32; PLACES],
 }
 
 // ---- numbers
@@ -208,10 +208,10 @@ pub fn fresh(
         dirty,
         dirty_len: 0,
         page,
-        reference,
         target: 0,
         served: 0,
         reads,
         writes,
+        reference,
     }
 }

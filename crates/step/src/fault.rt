@@ -34,12 +34,12 @@ fn free(pool: Pool, choice: Choice) -> Freed
 {
     match choice {
         Choice::OfEmpty(i) => {
-            let empty = pool.empty;
+            let mut empty = pool.empty;
             let last = pool.empty_len - 1;
             let frame = empty[i];
-            let rest = order::take_out(empty, i, last);
+            order::take_out(&mut empty, i, last);
             let mut next = pool;
-            next.empty = rest;
+            next.empty = empty;
             next.empty_len = last;
             Freed {
                 pool: next,
@@ -48,14 +48,14 @@ fn free(pool: Pool, choice: Choice) -> Freed
             }
         }
         Choice::OfClean(i) => {
-            let clean = pool.clean;
+            let mut clean = pool.clean;
             let page = pool.page;
             let last = pool.clean_len - 1;
             let frame = clean[i];
             let victim = page_in(page, frame);
-            let rest = order::take_out(clean, i, last);
+            order::take_out(&mut clean, i, last);
             let mut next = pool;
-            next.clean = rest;
+            next.clean = clean;
             next.clean_len = last;
             Freed {
                 pool: next,
@@ -64,14 +64,14 @@ fn free(pool: Pool, choice: Choice) -> Freed
             }
         }
         Choice::OfDirty(i) => {
-            let dirty = pool.dirty;
+            let mut dirty = pool.dirty;
             let page = pool.page;
             let last = pool.dirty_len - 1;
             let frame = dirty[i];
             let victim = page_in(page, frame);
-            let rest = order::take_out(dirty, i, last);
+            order::take_out(&mut dirty, i, last);
             let mut next = pool;
-            next.dirty = rest;
+            next.dirty = dirty;
             next.dirty_len = last;
             Freed {
                 pool: next,
@@ -135,11 +135,11 @@ pub fn read(pool: Pool, page: u16) -> Step
     let frame = taken.frame;
     let victim = taken.victim;
     let rest = taken.pool;
-    let clean = rest.clean;
+    let mut clean = rest.clean;
     let n = rest.clean_len;
-    let longer = order::put_front(clean, n, frame);
+    order::put_front(&mut clean, n, frame);
     let mut next = rest;
-    next.clean = longer;
+    next.clean = clean;
     next.clean_len = n + 1;
     Step {
         pool: next,
@@ -157,11 +157,11 @@ pub fn write(pool: Pool, page: u16) -> Step
     let frame = taken.frame;
     let victim = taken.victim;
     let rest = taken.pool;
-    let dirty = rest.dirty;
+    let mut dirty = rest.dirty;
     let n = rest.dirty_len;
-    let longer = order::put_front(dirty, n, frame);
+    order::put_front(&mut dirty, n, frame);
     let mut next = rest;
-    next.dirty = longer;
+    next.dirty = dirty;
     next.dirty_len = n + 1;
     Step {
         pool: next,

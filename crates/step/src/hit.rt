@@ -53,12 +53,12 @@ pub fn read_clean(pool: Pool, read_cost: u64, write_cost: u64, at: usize) -> Ste
     requires { ⌜ (at < pool .«clean_len») × (1 ≤ «read_cost») × («read_cost» ≤ mostCost) × («write_cost» ≤ mostCost) ⌝ }
     ensures { λ r. ⌜ r ≡ stepOf (readClean (costs «read_cost» «write_cost») (stateOf pool) at) ⌝ }
 {
-    let clean = pool.clean;
+    let mut clean = pool.clean;
     let dirty = pool.dirty;
     let cn = pool.clean_len;
     let dn = pool.dirty_len;
     let frame = clean[at];
-    let moved = order::move_to_front(clean, at);
+    order::move_to_front(&mut clean, at);
     let target = reckon::raise(
         pool.frames as u64,
         pool.target,
@@ -67,7 +67,7 @@ pub fn read_clean(pool: Pool, read_cost: u64, write_cost: u64, at: usize) -> Ste
         cn as u64,
         dn as u64,
     );
-    hit(pool, moved, cn, dirty, dn, target, frame)
+    hit(pool, clean, cn, dirty, dn, target, frame)
 }
 
 // A write hit in C: the frame goes to the front of D, and the target stays.
@@ -76,14 +76,14 @@ pub fn write_clean(pool: Pool, at: usize) -> Step
     requires { ⌜ at < pool .«clean_len» ⌝ }
     ensures { λ r. ⌜ r ≡ stepOf (writeClean (stateOf pool) at) ⌝ }
 {
-    let clean = pool.clean;
-    let dirty = pool.dirty;
+    let mut clean = pool.clean;
+    let mut dirty = pool.dirty;
     let cn = pool.clean_len;
     let dn = pool.dirty_len;
     let frame = clean[at];
-    let rest = order::take_out(clean, at, cn - 1);
-    let longer = order::put_front(dirty, dn, frame);
-    hit(pool, rest, cn - 1, longer, dn + 1, pool.target, frame)
+    order::take_out(&mut clean, at, cn - 1);
+    order::put_front(&mut dirty, dn, frame);
+    hit(pool, clean, cn - 1, dirty, dn + 1, pool.target, frame)
 }
 
 // The frame goes to the front of D, and the target becomes this one: a read leaves it as it was.
@@ -93,12 +93,12 @@ pub fn in_dirty(pool: Pool, at: usize, target: u64) -> Step
     ensures { λ r. ⌜ r ≡ stepOf (readDirty (withTarget target (stateOf pool)) at) ⌝ }
 {
     let clean = pool.clean;
-    let dirty = pool.dirty;
+    let mut dirty = pool.dirty;
     let cn = pool.clean_len;
     let dn = pool.dirty_len;
     let frame = dirty[at];
-    let moved = order::move_to_front(dirty, at);
-    hit(pool, clean, cn, moved, dn, target, frame)
+    order::move_to_front(&mut dirty, at);
+    hit(pool, clean, cn, dirty, dn, target, frame)
 }
 
 // A write hit in D: the frame goes to the front of D, and the target down.

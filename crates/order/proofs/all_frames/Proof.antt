@@ -8,7 +8,7 @@ use lib.ListN.{length}
 use borrow.Author.Needs.{needs}
 use Rattle.order.specs.Lists.{downFrom}
 use Rattle.order.specs.Places.{places, InPlaces}
-use Rattle.order.proofs.Places.{none-in-places, cons-in-places}
+use Rattle.order.proofs.Places.{none-in-places, in-places-length, cons-in-places}
 use Rattle.order.proofs.all_frames.Statement.{statement}
 use Rattle.order.proofs.all_frames.Tie as tie
 
@@ -23,8 +23,9 @@ loop-holds c = (search needs, search needs, none-in-places)
 
 loop-again : tie.Need-loop-again Inv-loop μ-loop
 loop-again c =
-    let l = c .before .before .loop in
-    (search needs, search needs, rw (c .put-front .ensures, add-one) (rw add-one at (cons-in-places (l .inv .2) (l .k) (search needs))))
+    let l = c .before .before .before .loop in
+    let h = cons-in-places (l .inv .2) (l .k) (search needs) in
+    (rw (c .put-front .ensures) (in-places-length h), search needs, rw (c .put-front .ensures, add-one) (rw add-one at h))
 
 returns : tie.Need-returns Inv-loop μ-loop
 returns c = let l = c .before .loop in let e : l .k ≡ c .before .before .args .n = omega arith in rw (← e) (l .inv .2)

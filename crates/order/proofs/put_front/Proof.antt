@@ -13,25 +13,25 @@ use Rattle.order.proofs.put_front.Statement.{statement}
 use Rattle.order.proofs.put_front.Tie as tie
 
 abbrev Inv-loop : tie.InvT-loop
-Inv-loop from x r₀ i₀ r i = (length r ≡ places) × (i < places) × (removeAt i r ≡ removeAt from r₀)
+Inv-loop list₀ from x i₀ list i = (length list ≡ places) × (i < places) × (removeAt i list ≡ removeAt from list₀)
 
 abbrev μ-loop : tie.MeasureT-loop
-μ-loop from x r₀ i₀ r i = i
+μ-loop list₀ from x i₀ list i = i
 
 loop-holds : tie.Need-loop-holds Inv-loop μ-loop
 loop-holds c = (search needs, search needs, refl)
 
 loop-again : tie.Need-loop-again Inv-loop μ-loop
 loop-again c =
-    let l = c .before .loop in
-    (search needs, omega arith, hole-down (l .r) (l .i) (omega arith) (omega arith) ∙ l .inv .2)
+    let l = c .before .before .loop in
+    (search needs, omega arith, hole-down (l .list) (l .i) (omega arith) (omega arith) ∙ l .inv .2)
 
 returns : tie.Need-returns Inv-loop μ-loop
 returns c =
     let l = c .before .loop in
     let x = c .before .before .args .x in
     let z : l .i ≡ 0 = omega arith in
-    hole-fill (l .r) 0 x (omega arith) ∙ ap (λ (r : List ℕ). x ∷ r) (rw z at (l .inv .2))
+    hole-fill (l .list) 0 x (omega arith) ∙ ap (λ (r : List ℕ). x ∷ r) (rw z at (l .inv .2))
 
 pub put-front-spec : {M : Type 1} → statement M
 put-front-spec =

@@ -12,25 +12,25 @@ use Rattle.order.proofs.take_out.Statement.{statement}
 use Rattle.order.proofs.take_out.Tie as tie
 
 abbrev Inv-loop : tie.InvT-loop
-Inv-loop at last r₀ i₀ r i = (length r ≡ places) × (i ≤ last) × (removeAt i r ≡ removeAt at r₀)
+Inv-loop list₀ at last i₀ list i = (length list ≡ places) × (i ≤ last) × (removeAt i list ≡ removeAt at list₀)
 
 abbrev μ-loop : tie.MeasureT-loop
-μ-loop at last r₀ i₀ r i = last - i
+μ-loop list₀ at last i₀ list i = last - i
 
 loop-holds : tie.Need-loop-holds Inv-loop μ-loop
 loop-holds c = (search needs, search needs, refl)
 
 loop-again : tie.Need-loop-again Inv-loop μ-loop
 loop-again c =
-    let l = c .before .loop in
-    (search needs, omega arith, hole-up (l .r) (l .i) (omega arith) ∙ l .inv .2)
+    let l = c .before .before .loop in
+    (search needs, omega arith, hole-up (l .list) (l .i) (omega arith) ∙ l .inv .2)
 
 returns : tie.Need-returns Inv-loop μ-loop
 returns c =
     let l = c .before .loop in
     let last = c .before .before .args .last in
     let z : l .i ≡ last = omega arith in
-    hole-fill (l .r) last 0 (omega arith) ∙ ap (insertAt last 0) (rw z at (l .inv .2))
+    hole-fill (l .list) last 0 (omega arith) ∙ ap (insertAt last 0) (rw z at (l .inv .2))
 
 pub take-out-spec : {M : Type 1} → statement M
 take-out-spec =

@@ -10,24 +10,26 @@ use Rattle.step.proofs.hit.write_clean.Statement.{statement}
 use Rattle.step.proofs.hit.write_clean.Tie as tie
 
 take-out-requires : tie.Need-take-out-requires
-take-out-requires c κs = omega (arith, clean-in-places _ (c .before .before .pre .0) .fits)
+take-out-requires c κs = (search needs, omega (arith, clean-in-places _ (c .before .before .before .pre .0) .fits))
 
 put-front-requires : tie.Need-put-front-requires
-put-front-requires c κs = dirty-room _ (c .before .before .before .pre .0) (c .before .before .before .pre .1)
+put-front-requires c κs =
+    let u = c .before .before .before .before .before .pre in
+    (search needs, dirty-room _ (u .0) (u .1))
 
 add-hit : tie.Need-add-hit
 add-hit c =
-    let u = c .before .before .before .before .pre in
+    let u = c .before .before .before .before .before .before .pre in
     omega (arith, dirty-room _ (u .0) (u .1))
 
 hit-requires : tie.Need-hit-requires
-hit-requires c κs = let u = c .before .before .before .before .pre in (u .0, clean-frame _ (u .0) _ (u .1))
+hit-requires c κs = let u = c .before .before .before .before .before .before .pre in (u .0, clean-frame _ (u .0) _ (u .1))
 
 returns : tie.Need-returns
 returns c =
-    let u = c .before .before .before .before .before .pre in
+    let u = c .before .before .before .before .before .before .before .pre in
     let h = clean-in-places _ (u .0) in
-    c .hit .ensures _ _ _ _ (rw (← (c .before .before .take-out .ensures)) at (remove-in-places h _ (u .1)))
+    c .hit .ensures _ _ _ _ (rw (← (c .before .before .before .take-out .ensures)) at (remove-in-places h _ (u .1)))
     (dirty-longer _ (u .0) (u .1) (c .before .put-front .ensures)) refl (in-places-getD h _ (u .1))
 
 pub write-clean-spec : {M : Type 1} → statement M
