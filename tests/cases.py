@@ -28,6 +28,14 @@ def reads(first, end):
     return [('R', 0, page) for page in range(first, end)]
 
 
+def moved_to_front(places, b=64):
+    """The pages that stand at these places, one after the other, of a list of pages b - 1 to 0, each of them moved to its front."""
+    pages = list(range(b))[::-1]
+    for place in places:
+        pages.insert(0, pages.pop(place))
+        yield pages[0]
+
+
 def tail(distance, records, b=2, P=16, N=8, r=1, w=3):
     return struct.pack('<IIHHIHH', distance, records, b, P, N, r, w)
 
@@ -70,6 +78,14 @@ def edges():
     yield 'flush-then-hits', trace(told('R0 W1 R2 W3 R4 W5 R0 F W2 R1 W4 R3 F') + reads(6, 12), b=6, N=12)
     yield 'flush-one-frame', trace(told('W0 F R0 W0 F F R1 W0 R1 F W1 F R0'), b=1, N=2)
     yield 'flush-64-frames', trace(told(' '.join('RW'[k % 3 == 1] + str(k * 37 % 64) for k in range(100)) + ' F') + reads(64, 128), b=64, N=128)
+    # a hit at each place, and what has moved, seen in the victims behind it: all 64 pages in the order of the list
+    all_out = reads(64, 128)
+    for place in (0, 1, 2, 63):
+        yield 'hit-place-%d' % place, trace(reads(0, 64) + [('R', 0, page) for page in moved_to_front([place])] + all_out, b=64, N=128)
+    yield 'hit-each-place-clean', trace(reads(0, 64) + [('R', 0, page) for page in moved_to_front(range(64))] + all_out, b=64, N=128)
+    dirty = [('W', page, page) for page in range(64)]
+    yield 'hit-each-place-dirty', trace(dirty + [('RW'[page % 2], page % 2, page) for page in moved_to_front(range(64))] + all_out, b=64, N=128)
+    yield 'hit-each-place-written', trace(reads(0, 64) + [('W', page, page * 29 % 64) for page in range(64)] + all_out, b=64, N=128)
     yield 'no-records', trace([])
     yield 'usual-drive', trace(LISTING, r=0, w=0)  # named when 1 and 4 was what open made of it, too
     for n in (0, 1, 19):

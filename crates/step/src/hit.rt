@@ -33,13 +33,13 @@ fn hit(
     let mut reference = pool.reference;
     reference[f] = call as u32;
     let mut next = pool;
-    next.clean = clean;
-    next.clean_len = cn;
-    next.dirty = dirty;
-    next.dirty_len = dn;
     next.reference = reference;
     next.target = target;
     next.served = call;
+    next.clean_len = cn;
+    next.dirty_len = dn;
+    next.clean = clean;
+    next.dirty = dirty;
     Step {
         pool: next,
         frame: f,
@@ -47,27 +47,33 @@ fn hit(
     }
 }
 
-// A read hit in C: the frame goes to the front of C, and the target up.
+// A read hit in C: the frame goes to the front of C, and the target up. The target first: a list that is changed before the division is copied once more.
 pub fn read_clean(pool: Pool, read_cost: u64, write_cost: u64, at: usize) -> Step
     requires { ⌜ Sound pool ⌝ }
     requires { ⌜ (at < pool .«clean_len») × (1 ≤ «read_cost») × («read_cost» ≤ mostCost) × («write_cost» ≤ mostCost) ⌝ }
     ensures { λ r. ⌜ r ≡ stepOf (readClean (costs «read_cost» «write_cost») (stateOf pool) at) ⌝ }
 {
-    let mut clean = pool.clean;
-    let dirty = pool.dirty;
-    let cn = pool.clean_len;
-    let dn = pool.dirty_len;
-    let frame = clean[at];
-    order::move_to_front(&mut clean, at);
     let target = reckon::raise(
         pool.frames as u64,
         pool.target,
         read_cost,
         write_cost,
-        cn as u64,
-        dn as u64,
+        pool.clean_len as u64,
+        pool.dirty_len as u64,
     );
-    hit(pool, clean, cn, dirty, dn, target, frame)
+    let mut clean = pool.clean;
+    let dirty = pool.dirty;
+    let frame = clean[at];
+    order::move_to_front(&mut clean, at);
+    hit(
+        pool,
+        clean,
+        pool.clean_len,
+        dirty,
+        pool.dirty_len,
+        target,
+        frame,
+    )
 }
 
 // A write hit in C: the frame goes to the front of D, and the target stays.
