@@ -33,13 +33,13 @@ fn hit(
     let mut reference = pool.reference;
     reference[f] = call as u32;
     let mut next = pool;
+    next.clean = clean;
+    next.clean_len = cn;
+    next.dirty = dirty;
+    next.dirty_len = dn;
     next.reference = reference;
     next.target = target;
     next.served = call;
-    next.clean_len = cn;
-    next.dirty_len = dn;
-    next.clean = clean;
-    next.dirty = dirty;
     Step {
         pool: next,
         frame: f,
