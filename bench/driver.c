@@ -1,7 +1,8 @@
 /* driver LOAD b P N n SEED SERVED: makes a load of n calls behind a warm-up and serves it, or with SERVED 0 the warm-up alone, for counting instructions. The
    difference between the two, for two values of n, is what the calls cost, without the making of the load.
-   Loads: trace (80 % of reads go to hot pages), a number (read hits at this place of C, or at its last), spread (read hits, uniform), refused (reads of page
-   N), clean, dirty (faults), flush (b writes and a flush each), sound (totals), mixed (totals where C and D take turns down the reference numbers), and those of the recorder, in records.c.
+   Loads: trace (80 % of reads go to hot pages), a number (read hits at this place of C, or at its last), spread (read hits, uniform), refused (reads of page N),
+   clean, dirty (faults), flush (b writes and a flush each), sound (totals), mixed (totals where C and D take turns down the reference numbers), and those of the
+   recorder, in records.c.
    Another SEED than 0 draws other pages. */
 #include "bench.h"
 #include "random.h"

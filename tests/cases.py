@@ -78,14 +78,15 @@ def edges():
     yield 'flush-then-hits', trace(told('R0 W1 R2 W3 R4 W5 R0 F W2 R1 W4 R3 F') + reads(6, 12), b=6, N=12)
     yield 'flush-one-frame', trace(told('W0 F R0 W0 F F R1 W0 R1 F W1 F R0'), b=1, N=2)
     yield 'flush-64-frames', trace(told(' '.join('RW'[k % 3 == 1] + str(k * 37 % 64) for k in range(100)) + ' F') + reads(64, 128), b=64, N=128)
-    # a hit at each place, and what has moved, seen in the victims behind it: all 64 pages in the order of the list
-    all_out = reads(64, 128)
+    # hits, and what they moved, seen in the victims behind them: all 64 pages of the list, its last one first
+    def moved(before, hits, op):
+        return trace(before + hits + [(op, 0, page) for page in range(64, 128)], b=64, N=128)
     for place in (0, 1, 2, 63):
-        yield 'hit-place-%d' % place, trace(reads(0, 64) + [('R', 0, page) for page in moved_to_front([place])] + all_out, b=64, N=128)
-    yield 'hit-each-place-clean', trace(reads(0, 64) + [('R', 0, page) for page in moved_to_front(range(64))] + all_out, b=64, N=128)
+        yield 'hit-place-%d' % place, moved(reads(0, 64), [('R', 0, page) for page in moved_to_front([place])], 'R')
+    yield 'hit-each-place-clean', moved(reads(0, 64), [('R', 0, page) for page in moved_to_front(range(64))], 'R')
     dirty = [('W', page, page) for page in range(64)]
-    yield 'hit-each-place-dirty', trace(dirty + [('RW'[page % 2], page % 2, page) for page in moved_to_front(range(64))] + all_out, b=64, N=128)
-    yield 'hit-each-place-written', trace(reads(0, 64) + [('W', page, page * 29 % 64) for page in range(64)] + all_out, b=64, N=128)
+    yield 'hit-each-place-dirty', moved(dirty, [('RW'[page % 2], page % 2, page) for page in moved_to_front(range(64))], 'W')
+    yield 'hit-written', moved(reads(0, 64), [('W', page, page * 29 % 64) for page in range(64)], 'W')  # from 32 places of C, all of it to D
     yield 'no-records', trace([])
     yield 'usual-drive', trace(LISTING, r=0, w=0)  # named when 1 and 4 was what open made of it, too
     for n in (0, 1, 19):

@@ -1,6 +1,6 @@
 -- Laws of a list in 64 places: what an operation on the places does to the list that they hold.
 --     pad-length, pad-set, pad-getD    a padded list
---     none-in-places, in-places-length, in-places-take, in-places-getD    the empty list, and what is read out of the places
+--     none-in-places, in-places-length, in-places-take, in-places-getD    the empty list, how many places there are, and what is read out of them
 --     front-in-places, remove-in-places, cons-in-places, tail-in-places    an operation on the places is one on the list
 --     turn-in-places, rest-in-places    places are filled with a list, one after the other
 -- Assumes nothing.

@@ -21,5 +21,6 @@ pub in-dirty-spec : {M : Type 1} → statement M
 in-dirty-spec =
     tie.close
     (tie.spec
-    (λ c. omega (arith, dirty-in-places _ (c .before .before .pre .0) .fits)) (λ c κs. (search needs, omega (arith, dirty-in-places _ (c .before .before .before .pre .0) .fits)))
+    (λ c. omega (arith, dirty-in-places _ (c .before .before .pre .0) .fits))
+    (λ c κs. (search needs, omega (arith, dirty-in-places _ (c .before .before .before .pre .0) .fits)))
     hit-requires returns)
