@@ -34,27 +34,33 @@ in-dirty c =
 
 returns : tie.Need-returns
 returns c =
-    let s = c .before .before .before .before .before .before .before .pre .0 in
-    let l = in-empty (c .before .before) .place in
+    let t = c .before .before in
+    let u = t .before .before .before in
+    let s = u .before .before .pre .0 in
+    let l = in-empty t .place in
     let h = empty-in-places _ s in
-    rw (c .before .before .before .before .before .choice .given .1)
+    rw (u .choice .given .1)
     (freed-is _ s (rw (← (c .take-out .ensures)) at (remove-in-places h _ l)) (clean-in-places _ s) (dirty-in-places _ s) (in-places-getD h _ l) refl)
 
 returns-2 : tie.Need-returns-2
 returns-2 c =
-    let s = c .before .before .before .before .before .before .before .before .before .pre .0 in
-    let l = in-clean (c .before .before .before) .place in
+    let t = c .before .before .before in
+    let u = t .before .before .before .before in
+    let s = u .before .before .pre .0 in
+    let l = in-clean t .place in
     let h = clean-in-places _ s in
-    rw (c .before .before .before .before .before .before .before .choice2 .given .1)
+    rw (u .choice2 .given .1)
     (freed-is _ s (empty-in-places _ s) (rw (← (c .take-out2 .ensures)) at (remove-in-places h _ l)) (dirty-in-places _ s) (in-places-getD h _ l)
     (ap Clean (c .before .before .page-in .ensures ∙ listed-page _ s h _ l (clean-frame _ s _ l))))
 
 returns-3 : tie.Need-returns-3
 returns-3 c =
-    let s = c .before .before .before .before .before .before .before .before .before .pre .0 in
-    let l = in-dirty (c .before .before .before) .place in
+    let t = c .before .before .before in
+    let u = t .before .before .before .before in
+    let s = u .before .before .pre .0 in
+    let l = in-dirty t .place in
     let h = dirty-in-places _ s in
-    rw (c .before .before .before .before .before .before .before .choice3 .given .1)
+    rw (u .choice3 .given .1)
     (freed-is _ s (empty-in-places _ s) (clean-in-places _ s) (rw (← (c .take-out3 .ensures)) at (remove-in-places h _ l)) (in-places-getD h _ l)
     (ap Dirty (c .before .before .page-in2 .ensures ∙ listed-page _ s h _ l (dirty-frame _ s _ l))))
 
