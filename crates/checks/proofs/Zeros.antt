@@ -8,7 +8,6 @@ use lib.ListN.{length, take, drop, replicate, length-drop, take-append-drop}
 use lib.Seq.{length-take-le, drop-at}
 use borrow.Author.Tests.{eqb-true}
 use Rattle.order.specs.Places.{places, InPlaces}
-use Rattle.order.proofs.Places.{pad-length}
 use Rattle.checks.specs.Tests.{every, isZero}
 
 zeros-are : (xs : List ℕ) → every isZero xs ≡ true → replicate (length xs) 0 ≡ xs
@@ -28,6 +27,3 @@ zeros-in-places list n l h e =
 module _ {list : List ℕ} {n : ℕ} (h : InPlaces list n (take n list)) where
   pub in-places-zeros : every isZero (drop n list) ≡ true
   in-places-zeros = rw (ap (drop n) (h .is) ∙ drop-at (take n list) _ n (h .len)) (zeros-pass (places - length (take n list)))
-
-  pub in-places-length : length list ≡ places
-  in-places-length = let l : length (take n list) ≤ places = omega (arith, h .len, h .fits) in ap length (h .is) ∙ pad-length (take n list) l

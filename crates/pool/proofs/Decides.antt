@@ -20,7 +20,8 @@ use Rattle.checks.specs.Tests.{Decides, every, isZero, FramesRight}
 use Rattle.checks.proofs.Counting.{count-three}
 use Rattle.checks.proofs.Exact.{Exact, exact-iff, exact-self, exact-and, exact-not, exact-eqb, exact-leb, exact-ltb, exact-where, exact-everyBelow, exact-every}
 use Rattle.checks.proofs.Frames.{frames-below}
-use Rattle.checks.proofs.Zeros.{zeros-in-places, in-places-zeros, in-places-length}
+use Rattle.order.proofs.Places.{in-places-length}
+use Rattle.checks.proofs.Zeros.{zeros-in-places, in-places-zeros}
 use Rattle.checks.proofs.Decides.{decides-of}
 use Rattle.model.specs.Numbers.{Numbers, unit, mostServed, inLimits, Limits}
 use Rattle.model.specs.State.{State, pageIn, numberIn, resident, standing, framesOf}

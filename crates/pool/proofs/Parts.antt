@@ -1,6 +1,4 @@
 -- What a sound pool is made of.
---     frames-below, frames-empty    right frames
---     zeros-in-places, in-places-zeros, in-places-length    places that hold a list, and 0 behind it
 --     ListsIn, lists-whole, sound-lists    the lists of a sound pool in their places
 --     PartsRight, sound-parts, parts-sound    the parts that the test looks at, one after the other
 -- Assumes nothing.
