@@ -256,20 +256,30 @@ static void hit_dirty(pool *p, u64 i, u8 f, int write)
     front(p->dirty, i, f);
 }
 
+PART place find(pool *p, u64 page)
+{
+    u64 found = holders(p, page);
+    if (!found)
+        return (place){0, 0, 0};
+    u64 f = (u64)__builtin_ctzll(found), in_clean = places(p->clean, p->clean_len, f);
+    if (in_clean)
+        return (place){p->clean, &p->clean_len, (u64)__builtin_ctzll(in_clean)};
+    return (place){p->dirty, &p->dirty_len, (u64)__builtin_ctzll(places(p->dirty, p->dirty_len, f))};
+}
+
 static u64 bring(served *s, u64 page, int write, u8 *frames, u8 *store)
 {
     pool *p = &s->pool;
     p->served++;
-    u64 found = holders(p, page);
-    if (!found)
+    place at = find(p, page);
+    if (!at.list)
         return fault(s, page, p->page_bytes, write, frames, store);
-    u8 f = (u8)__builtin_ctzll(found);
+    u8 f = at.list[at.at];
     s->hit = 1;
-    u64 in_clean = places(p->clean, p->clean_len, f);
-    if (in_clean)
-        hit_clean(p, (u64)__builtin_ctzll(in_clean), f, write);
+    if (at.list == p->clean)
+        hit_clean(p, at.at, f, write);
     else
-        hit_dirty(p, (u64)__builtin_ctzll(places(p->dirty, p->dirty_len, f)), f, write);
+        hit_dirty(p, at.at, f, write);
     return f;
 }
 

@@ -1,5 +1,6 @@
-/* The calls in C, the pool handed in and handed back, and the loads made of them. Whoever includes this has written before: sound (the exact test), bring (a page
-   into a frame), tested (which of a call's two copies of the pool is tested), total_at (the total with another target) and HANDED (how a pool goes to it). */
+/* The calls in C, the pool handed in and handed back, and the loads made of them. Whoever includes this has written before: sound (the exact test), find (where a
+   page stands), bring (a page into a frame), tested (which of a call's two copies of the pool is tested), total_at (the total with another target) and HANDED (how a
+   pool goes to it). */
 static int examine(const pool *p, u64 fn, u64 sn, u64 page, int fit)
 {
     if (!sound(p))
@@ -54,6 +55,22 @@ static served flush(pool p, const u8 *frames, u64 fn, u8 *store, u64 sn)
     return s;
 }
 
+/* The frame memory is lent to be measured alone: what the page has there is not written back. */
+static served drop_page(pool p, u64 page, const u8 *frames, u64 fn, u8 *store, u64 sn)
+{
+    served s = {.pool = p};
+    (void)frames;
+    if ((s.refused = examine(tested(&p, &s), fn, sn, page, 1)))
+        return s;
+    pool *q = &s.pool;
+    place at = find(q, page);
+    if (at.list)
+        vacate(q, at);
+    memset(store + page * p.page_bytes, 0, p.page_bytes);
+    q->writes++, q->served++;
+    return s;
+}
+
 u64 bench_serve(u64 b, u64 size, u64 count, const u8 *ops, u64 n_ops, const u16 *pages, u64 n_pages, u8 *frames, u64 fn, u8 *store, u64 sn, u8 *out, u64 on, u64 n)
 {
     pool p = opened(b, size, count, 1, 4);
@@ -62,6 +79,7 @@ u64 bench_serve(u64 b, u64 size, u64 count, const u8 *ops, u64 n_ops, const u16 
     for (u64 i = 0; i < n_ops && i < n_pages; i++) {
         served s = ops[i] == 0   ? read_page(p, pages[i], frames, fn, store, sn, out, on)
                    : ops[i] == 1 ? write_page(p, pages[i], 0, bytes, 8, frames, fn, store, sn)
+                   : ops[i] == 3 ? drop_page(p, pages[i], frames, fn, store, sn)
                                  : flush(p, frames, fn, store, sn);
         p = s.pool;
     }

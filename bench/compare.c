@@ -1,6 +1,6 @@
 /* The best C against the twin: the same random calls, some of them to be refused, must give the same answers, pools and bytes, and pools changed in a place or two
-   the same verdict. What both have from calls.h, the numbers and the merge of a flush, is held against the law. Prints what was compared; the first difference
-   ends it. */
+   the same verdict and the same drop. What both have from calls.h, the numbers, the merge of a flush and the drop, is held against the law. Prints what was compared;
+   the first difference ends it. */
 #include "compare.h"
 #include "random.h"
 #include <stdio.h>
@@ -19,7 +19,7 @@ typedef struct {
     u64 op, page, start, n, fn, sn, on;
 } request;
 
-static house of_twin = {.calls = &twin}, of_best = {.calls = &best};
+static house of_twin = {.calls = &twin}, of_best = {.calls = &best}, of_law;
 
 static u64 below(u64 n)
 {
@@ -42,11 +42,13 @@ static void open_house(house *h, u64 frames, u64 pages, u64 read_cost, u64 write
         h->store[i] = (u8)(i / SIZE * 37 + i / (256 * SIZE) + i);
 }
 
-/* Pages near the first ones come often, so that there are hits; a flush comes seldom in some runs, so that D grows long; one request in 16 has something wrong. */
+/* Pages near the first ones come often, so that there are hits; in some runs a flush comes seldom, so that D grows long, and in some a drop, so that no frame is
+   empty for long; one request in 16 has something wrong. */
 static request drawn(const pool *p, u64 run)
 {
     u64 often = p->frames + 8 < p->pages ? p->frames + 8 : p->pages, wrong = below(16 * 6);
-    request q = {.op = below(20 << run % 4) == 0 ? 2 : below(3) == 0, .page = below(3) ? below(often) : below(p->pages), .start = below(9), .n = 1 + below(8)};
+    u64 op = below(20 << run % 4) == 0 ? 2 : below(6 << run / 4 % 4) == 0 ? 3 : below(3) == 0;
+    request q = {.op = op, .page = below(3) ? below(often) : below(p->pages), .start = below(9), .n = 1 + below(8)};
     q.fn = p->frames * SIZE - (wrong == 0), q.sn = p->pages * SIZE - (wrong == 1), q.on = SIZE - (wrong == 2);
     if (wrong == 3)
         q.page = p->pages + below(3);
@@ -62,22 +64,70 @@ static served serve(house *h, request q)
     static const u8 bytes[8] = {7, 1, 2, 5, 3, 4, 6, 9};
     served s = q.op == 0   ? h->calls->read_page(h->pool, q.page, h->frames, q.fn, h->store, q.sn, h->out, q.on)
                : q.op == 1 ? h->calls->write_page(h->pool, q.page, q.start, bytes, q.n, h->frames, q.fn, h->store, q.sn)
+               : q.op == 3 ? h->calls->drop_page(h->pool, q.page, h->frames, q.fn, h->store, q.sn)
                            : h->calls->flush(h->pool, h->frames, q.fn, h->store, q.sn);
     h->pool = s.pool;
     return s;
 }
 
+static int same_pool(const pool *a, const pool *b)
+{
+    return !memcmp(a, b, sizeof *a);
+}
+
 static int same_answer(const served *a, const served *b)
 {
-    return a->refused == b->refused && a->hit == b->hit && a->victim == b->victim && a->old == b->old && !memcmp(&a->pool, &b->pool, sizeof a->pool);
+    return a->refused == b->refused && a->hit == b->hit && a->victim == b->victim && a->old == b->old && same_pool(&a->pool, &b->pool);
 }
 
-static int same_bytes(u64 store)
+static int same_bytes(const house *a, const house *b, u64 store)
 {
-    return !memcmp(of_twin.frames, of_best.frames, sizeof of_twin.frames) && !memcmp(of_twin.store, of_best.store, store) && !memcmp(of_twin.out, of_best.out, SIZE);
+    return !memcmp(a->frames, b->frames, sizeof a->frames) && !memcmp(a->store, b->store, store) && !memcmp(a->out, b->out, SIZE);
 }
 
-/* Whether a served call has given its number to the frame of its page alone, a flush to none. */
+static void copy_house(house *to, const house *from, u64 store)
+{
+    to->pool = from->pool;
+    memcpy(to->frames, from->frames, sizeof to->frames), memcpy(to->store, from->store, store), memcpy(to->out, from->out, SIZE);
+}
+
+/* The law of a drop, on the pool: C and D are listed anew, and the frame that has the page goes behind E. */
+static void cut(pool *p, u64 page)
+{
+    pool was = *p;
+    memset(p->clean, 0, PLACES), memset(p->dirty, 0, PLACES);
+    p->clean_len = p->dirty_len = 0, p->served++, p->writes++;
+    for (u64 i = 0; i < was.clean_len + was.dirty_len; i++) {
+        int clean = i < was.clean_len;
+        u8 f = clean ? was.clean[i] : was.dirty[i - was.clean_len];
+        if (was.page[f] == page)
+            p->empty[p->empty_len++] = f, p->page[f] = 0, p->reference[f] = 0;
+        else if (clean)
+            p->clean[p->clean_len++] = f;
+        else
+            p->dirty[p->dirty_len++] = f;
+    }
+}
+
+/* The whole drop by the law, in its own house; its refusal, or 0. */
+static int drop_by_law(request q)
+{
+    pool *p = &of_law.pool;
+    u64 size = p->page_bytes;
+    if (!twin.sound(p))
+        return UNSOUND;
+    if (q.fn != p->frames * size || q.sn != p->pages * size)
+        return WRONG_LENGTHS;
+    if (q.page >= p->pages)
+        return NO_SUCH_PAGE;
+    if (p->served == MOST_SERVED)
+        return NONE_LEFT;
+    cut(p, q.page);
+    memset(of_law.store + q.page * size, 0, size);
+    return 0;
+}
+
+/* Whether a read or a write that was served has given its number to the frame of its page alone, a flush to none. */
 static int numbered(const pool *was, const pool *is, request q)
 {
     u64 given = 0;
@@ -104,10 +154,13 @@ static int compare_call(request q, u64 run)
 {
     pool was = of_twin.pool;
     u64 store = of_twin.pool.pages * SIZE, target = below((of_twin.pool.frames + 1) * ONE + 2), costs[2] = {0, 0};
+    if (q.op == 3)
+        copy_house(&of_law, &of_twin, store);
     served a = serve(&of_twin, q), b = serve(&of_best, q);
     must(same_answer(&a, &b), "a call's answer", run);
-    must(same_bytes(store), "the bytes after a call", run);
-    must(a.refused || (twin.sound(&a.pool) && numbered(&was, &a.pool, q)), "what a served call leaves", run);
+    must(same_bytes(&of_twin, &of_best, store), "the bytes after a call", run);
+    must(a.refused || (twin.sound(&a.pool) && (q.op == 3 || numbered(&was, &a.pool, q))), "what a served call leaves", run);
+    must(q.op != 3 || (a.refused == drop_by_law(q) && same_pool(&a.pool, &of_law.pool) && same_bytes(&of_twin, &of_law, store)), "a drop", run);
     pool p = a.pool, r = b.pool;
     must(twin.total_at(&p, target, &costs[0]) == best.total_at(&r, target, &costs[1]) && costs[0] == costs[1], "a total", run);
     return a.refused != 0;
@@ -130,19 +183,32 @@ static void change_number(pool *p)
         *other = was;
 }
 
-/* A frame, a page or a number that stands twice is what most tests are about, so most changes are of these; the rest change any byte. */
+/* A frame, a page or a number that stands twice is what most tests are about, so most changes are of these; the rest change any byte, or leave one
+   call to be served or none. */
 static void change(pool *p)
 {
     u8 *lists[3] = {p->empty, p->clean, p->dirty}, *list = lists[below(3)], *bytes = (u8 *)p;
-    u64 kind = below(4);
-    if (kind == 0)
+    u64 kind = below(9);
+    if (kind < 2)
         list[below(PLACES)] = list[below(PLACES)];
-    else if (kind == 1)
+    else if (kind < 4)
         p->page[a_frame()] = p->page[a_frame()];
-    else if (kind == 2)
+    else if (kind < 6)
         change_number(p);
+    else if (kind == 6)
+        p->served = MOST_SERVED - below(2);
     else
         bytes[below(sizeof *p)] = below(4) ? bytes[below(sizeof *p)] : (u8)below(256);
+}
+
+/* Both drop a page of a changed pool, and so does the law. All zero it in the law's house, a copy: what becomes of bytes is compared after the calls. */
+static void compare_drop(const pool *p, u64 run)
+{
+    request q = drawn(&of_twin.pool, run);
+    served a = twin.drop_page(*p, q.page, of_law.frames, q.fn, of_law.store, q.sn), b = best.drop_page(*p, q.page, of_law.frames, q.fn, of_law.store, q.sn);
+    of_law.pool = *p;
+    must(same_answer(&a, &b) && a.refused == drop_by_law(q) && same_pool(&a.pool, &of_law.pool), "a drop of a changed pool", run);
+    must(a.refused || twin.sound(&a.pool), "what such a drop leaves", run);
 }
 
 /* Whether both call the changed pool sound; 2 if so in spite of other numbers. */
@@ -152,26 +218,28 @@ static int compare_verdict(pool p, u64 run)
         change(&p);
     int verdict = twin.sound(&p);
     must(best.sound(&p) == verdict, "a verdict", run);
+    compare_drop(&p, run);
     return verdict + (verdict && memcmp(p.reference, of_twin.pool.reference, sizeof p.reference));
 }
 
 int main(void)
 {
     static const u64 most_pages[3] = {200, 1024, MOST_PAGES};
-    u64 refused = 0, merged = 0, verdicts[3] = {0, 0, 0};
+    u64 refused = 0, merged = 0, freed = 0, verdicts[3] = {0, 0, 0};
     for (u64 run = 0; run < RUNS; run++) {
         u64 frames = 1 + below(PLACES), pages = 1 + below(most_pages[run % 3]), read_cost = 1 + below(MOST_COST), write_cost = 1 + below(MOST_COST);
         open_house(&of_twin, frames, pages, read_cost, write_cost);
         open_house(&of_best, frames, pages, read_cost, write_cost);
         for (u64 i = 0; i < CALLS; i++) {
             request q = drawn(&of_twin.pool, run);
+            u64 empty = of_twin.pool.empty_len;
             int merges = q.op == 2 && interleaved(&of_twin.pool), no = compare_call(q, run);
-            refused += no, merged += merges && !no;
+            refused += no, merged += merges && !no, freed += of_twin.pool.empty_len > empty;
             for (u64 k = 0; k < CHANGES; k++)
                 verdicts[compare_verdict(of_twin.pool, run)]++;
         }
     }
-    printf("best.c is as twin.c: %d calls (%llu refused, %llu flushes of C and D interleaved), ", RUNS * CALLS, refused, merged);
+    printf("best.c is as twin.c: %d calls (%llu refused, %llu flushes of C and D interleaved, %llu drops that free a frame), ", RUNS * CALLS, refused, merged, freed);
     printf("%d changed pools (%llu sound, %llu of them with other numbers)\n", RUNS * CALLS * CHANGES, verdicts[1] + verdicts[2], verdicts[2]);
     return 0;
 }

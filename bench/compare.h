@@ -7,6 +7,7 @@ typedef struct {
     served (*read_page)(pool, u64 page, u8 *frames, u64 fn, u8 *store, u64 sn, u8 *out, u64 on);
     served (*write_page)(pool, u64 page, u64 start, const u8 *bytes, u64 n, u8 *frames, u64 fn, u8 *store, u64 sn);
     served (*flush)(pool, const u8 *frames, u64 fn, u8 *store, u64 sn);
+    served (*drop_page)(pool, u64 page, const u8 *frames, u64 fn, u8 *store, u64 sn);
     u64 (*total_at)(pool *, u64 target, u64 *cost);
 } side;
 

@@ -1,8 +1,9 @@
 /* driver LOAD b P N n SEED SERVED: makes a load of n calls behind a warm-up and serves it, or with SERVED 0 the warm-up alone, for counting instructions. The
    difference between the two, for two values of n, is what the calls cost, without the making of the load.
    Loads: trace (80 % of reads go to hot pages), a number (read hits at this place of C, or at its last), spread (read hits, uniform), refused (reads of page N),
-   clean, dirty (faults), flush (b writes and a flush each), sound (totals), mixed (totals where C and D take turns down the reference numbers), and those of the
-   recorder, in records.c.
+   clean, dirty (faults), flush (b writes and a flush each), drop (of absent pages), cut and a number (a drop at this place of C, or at its last, and a read that takes
+   the freed frame), lose and a number (the same in D, with a write), sound (totals), mixed (totals where C and D take turns down the reference numbers), and those of
+   the recorder, in records.c.
    Another SEED than 0 draws other pages. */
 #include "bench.h"
 #include "random.h"
@@ -35,18 +36,24 @@ int main(int argc, char **argv)
     ops = calloc(room, 1), pages = calloc(room, 2);
     u8 *frames = calloc(b, P), *store = calloc(N, P), *out = calloc(1, P);
     /* pages that stand apart in the store, so that low bits meet where N is large */
-    u64 stride = N / (2 * b) ? N / (2 * b) : 1, dirty = !strcmp(load, "dirty") || !strcmp(load, "flush"), mixed = !strcmp(load, "mixed");
+    u64 stride = N / (2 * b) ? N / (2 * b) : 1, mixed = !strcmp(load, "mixed"), cut = !strncmp(load, "cut", 3), lose = !strncmp(load, "lose", 4);
+    u64 dirty = lose || !strcmp(load, "dirty") || !strcmp(load, "flush");
     for (u64 i = 0; i < b; i++)
         add(dirty || (mixed && i % 2), i * stride % N + (N > 1024 ? next() % stride : 0));
-    u64 warm = made, place = strtoull(load, 0, 10);
+    u64 warm = made, place = strtoull(load + strcspn(load, "0123456789"), 0, 10);
     if (place > b - 1)
         place = b - 1;
     for (u64 i = 0; i < n; i++) {
-        u64 hot = next() % 10 < 8;
+        /* of the pages that stand up to the place, the last one each time */
+        u64 hot = next() % 10 < 8, there = pages[warm - 1 - place + i % (place + 1)];
         if (!strcmp(load, "trace"))
             add(0, hot ? pages[next() % (b - b / 4 ? b - b / 4 : 1)] : next() % N);
-        else if (isdigit((u8)load[0])) /* of the pages that stand up to this place, the last one each time */
-            add(0, pages[warm - 1 - place + i % (place + 1)]);
+        else if (isdigit((u8)load[0]))
+            add(0, there);
+        else if (cut || lose)
+            add(3, there), add((int)lose, there);
+        else if (!strcmp(load, "drop")) /* in the second half of the store, where no page of the warm-up is */
+            add(3, N - 1 - i % ((N + 1) / 2));
         else if (!strcmp(load, "refused"))
             add(0, N);
         else if (!strcmp(load, "spread"))

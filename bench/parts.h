@@ -1,5 +1,5 @@
 /* What the twin and the best C do alike below their calls: test the numbers of a pool, open one, move frames along its lists, merge these, move the target, serve a
-   fault. */
+   fault, empty a frame. */
 #include "pool.h"
 #include <string.h>
 
@@ -46,6 +46,21 @@ static void take(u8 *list, u64 at, u64 n)
 {
     memmove(list + at, list + at + 1, n - at - 1);
     list[n - 1] = 0;
+}
+
+/* Where a page stands: at which place of C or D, with the length of that one; `list` is 0 where no frame has it. */
+typedef struct {
+    u8 *list;
+    u64 *n, at;
+} place;
+
+/* The frame there leaves its list and becomes the tail of E, which the next fault takes. */
+PART void vacate(pool *p, place from)
+{
+    u8 f = from.list[from.at];
+    take(from.list, from.at, (*from.n)--);
+    p->empty[p->empty_len++] = f;
+    p->page[f] = 0, p->reference[f] = 0;
 }
 
 /* The next frame where C and D are merged, latest reference first; one of them has one left. */

@@ -106,7 +106,7 @@ static u64 said(verdict v, u64 bytes)
 
 static record record_by(u8 op, u64 page)
 {
-    return op == FLUSH ? (record){'F', 0, 0} : op == READ ? (record){'R', 0, page} : (record){'W', op, page};
+    return op == FLUSH ? (record){'F', 0, 0} : op == READ ? (record){'R', 0, page} : op == DROP ? (record){'D', 0, page} : (record){'W', op, page};
 }
 
 u64 bench_record(u64 b, u64 size, u64 count, u64 read_cost, u64 write_cost, u64 start, u32 records, const u32 *requests, u64 n_requests, const u8 *notes, u64 n_notes,

@@ -7,4 +7,4 @@ static u64 total_of(pool *p, u64 target, u64 *cost)
     return total_at(HANDED(*p), target, cost);
 }
 
-const side SIDE = {sound, opened, read_page, write_page, flush, total_of};
+const side SIDE = {sound, opened, read_page, write_page, flush, drop_page, total_of};

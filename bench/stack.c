@@ -38,7 +38,7 @@ static u64 depth(void (*run)(void))
 int main(void)
 {
     for (u64 i = 0; i < REQUESTS; i++)
-        ops[i] = i % 97 == 96 ? 2 : i * i % 3 % 2, pages[i] = i * 7 % 131 + i % 5;
+        ops[i] = i % 97 == 96 ? 2 : i % 11 == 10 ? 3 : i * i % 3 % 2, pages[i] = i * 7 % 131 + i % 5;
     u64 empty = depth(nothing), full = depth(serve);
     printf("stack of a run of every call: %llu bytes\n", full - empty);
     return answer == 0;

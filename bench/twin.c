@@ -62,36 +62,41 @@ static int sound(const pool *p)
     return 1;
 }
 
+/* By the lists, not by the frames: an empty one has 0 for its page. */
+PART place find(pool *p, u64 page)
+{
+    for (u64 i = 0; i < p->clean_len; i++)
+        if (p->page[p->clean[i]] == page)
+            return (place){p->clean, &p->clean_len, i};
+    for (u64 i = 0; i < p->dirty_len; i++)
+        if (p->page[p->dirty[i]] == page)
+            return (place){p->dirty, &p->dirty_len, i};
+    return (place){0, 0, 0};
+}
+
 static u64 bring(served *s, u64 page, int write, u8 *frames, u8 *store)
 {
     pool *p = &s->pool;
     u64 size = p->page_bytes, c = p->clean_len, d = p->dirty_len, r = p->read_cost, w = p->write_cost;
-    u8 f;
     p->served++;
-    for (u64 i = 0; i < c; i++)
-        if (p->page[p->clean[i]] == page) {
-            f = p->clean[i];
-            s->hit = 1;
-            if (write) {
-                take(p->clean, i, c);
-                front(p->dirty, d, f);
-                p->clean_len--, p->dirty_len++;
-            } else {
-                raise(p, r * d, (r + w) * c);
-                front(p->clean, i, f);
-            }
-            return f;
-        }
-    for (u64 i = 0; i < d; i++)
-        if (p->page[p->dirty[i]] == page) {
-            f = p->dirty[i];
-            s->hit = 1;
-            if (write)
-                lower(p, w * c, (r + w) * d);
-            front(p->dirty, i, f);
-            return f;
-        }
-    return fault(s, page, size, write, frames, store);
+    place at = find(p, page);
+    if (!at.list)
+        return fault(s, page, size, write, frames, store);
+    u8 f = at.list[at.at];
+    s->hit = 1;
+    if (at.list == p->dirty) {
+        if (write)
+            lower(p, w * c, (r + w) * d);
+        front(p->dirty, at.at, f);
+    } else if (write) {
+        take(p->clean, at.at, c);
+        front(p->dirty, d, f);
+        p->clean_len--, p->dirty_len++;
+    } else {
+        raise(p, r * d, (r + w) * c);
+        front(p->clean, at.at, f);
+    }
+    return f;
 }
 
 static const pool *tested(const pool *handed, const served *back)

@@ -12,6 +12,7 @@ import sys
 import model
 
 HERE = os.path.join(os.path.dirname(os.path.abspath(__file__)), 'traces')
+DIRTY = [('W', page, page) for page in range(64)]
 LISTING = [('R', 0, 0), ('W', 7, 1), ('R', 0, 0), ('R', 0, 2), ('W', 9, 1), ('W', 5, 2), ('R', 0, 3), ('F', 0, 0), ('R', 0, 1)]
 
 
@@ -36,12 +37,17 @@ def moved_to_front(places, b=64):
         yield pages[0]
 
 
+def moved(before, moves, op):
+    """What was moved among 64 frames, seen in the victims of 64 faults behind it: all pages of the list, its last one first."""
+    return trace(before + moves + [(op, 0, page) for page in range(64, 128)], b=64, N=128)
+
+
 def tail(distance, records, b=2, P=16, N=8, r=1, w=3):
     return struct.pack('<IIHHIHH', distance, records, b, P, N, r, w)
 
 
-def valid(rng):
-    """A random trace that the program serves: b, P, N, costs, a skew, writes, flushes and notes."""
+def valid(rng, drops=0):
+    """A random trace that the program serves: b, P, N, costs, a skew, writes, flushes and notes. Without drops no chance is spent on them."""
     P = rng.choice([16, 17, 31, 64, 100, 512, 4096])
     b = rng.randint(1, min(64, 8192 // P))
     N = rng.randint(1, min(65536, 32768 // P))
@@ -55,6 +61,9 @@ def valid(rng):
             rs.append(('F', 0, 0))
             continue
         page = rng.choice(hot) if rng.random() < skew else rng.randrange(N)
+        if drops and rng.random() < drops:
+            rs.append(('D', 0, page))
+            continue
         rs.append(('W', rng.randrange(256), page) if rng.random() < writes else ('R', 0, page))
     return trace(rs, b, P, N, r, w, notes)
 
@@ -78,14 +87,11 @@ def edges():
     yield 'flush-then-hits', trace(told('R0 W1 R2 W3 R4 W5 R0 F W2 R1 W4 R3 F') + reads(6, 12), b=6, N=12)
     yield 'flush-one-frame', trace(told('W0 F R0 W0 F F R1 W0 R1 F W1 F R0'), b=1, N=2)
     yield 'flush-64-frames', trace(told(' '.join('RW'[k % 3 == 1] + str(k * 37 % 64) for k in range(100)) + ' F') + reads(64, 128), b=64, N=128)
-    # hits, and what they moved, seen in the victims behind them: all 64 pages of the list, its last one first
-    def moved(before, hits, op):
-        return trace(before + hits + [(op, 0, page) for page in range(64, 128)], b=64, N=128)
+    # hits at places of C and of D
     for place in (0, 1, 2, 63):
         yield 'hit-place-%d' % place, moved(reads(0, 64), [('R', 0, page) for page in moved_to_front([place])], 'R')
     yield 'hit-each-place-clean', moved(reads(0, 64), [('R', 0, page) for page in moved_to_front(range(64))], 'R')
-    dirty = [('W', page, page) for page in range(64)]
-    yield 'hit-each-place-dirty', moved(dirty, [('RW'[page % 2], page % 2, page) for page in moved_to_front(range(64))], 'W')
+    yield 'hit-each-place-dirty', moved(DIRTY, [('RW'[page % 2], page % 2, page) for page in moved_to_front(range(64))], 'W')
     yield 'hit-written', moved(reads(0, 64), [('W', page, page * 29 % 64) for page in range(64)], 'W')  # from 32 places of C, all of it to D
     yield 'no-records', trace([])
     yield 'usual-drive', trace(LISTING, r=0, w=0)  # named when 1 and 4 was what open made of it, too
@@ -110,7 +116,8 @@ def edges():
     yield 'costs-5-0', trace([], r=5, w=0)
     yield 'numbers-most', tail(20, 0, 65535, 65535, 0xFFFFFFFF, 65535, 65535)
     # 8: letters, values, pages
-    for k, bad in enumerate([(b'X', 0, 0), (b'r', 0, 0), (b'R', 1, 0), (b'R', 0, 8), (b'R', 0, 65535), (b'W', 0, 8), (b'F', 1, 0), (b'F', 0, 1), (b'\0', 0, 0)]):
+    for k, bad in enumerate([(b'X', 0, 0), (b'r', 0, 0), (b'R', 1, 0), (b'R', 0, 8), (b'R', 0, 65535), (b'W', 0, 8), (b'F', 1, 0), (b'F', 0, 1), (b'\0', 0, 0),
+                             (b'D', 1, 0), (b'D', 0, 8), (b'D', 0, 65535), (b'd', 0, 0), (b'E', 0, 0)]):
         body = struct.pack('<cBH', *bad)
         yield 'record-bad-%d' % k, body + tail(24, 1)
         yield 'record-bad-%d-third' % k, b'R\0\7\0' + b'W\xff\7\0' + body + body + tail(36, 4)
@@ -139,11 +146,43 @@ def edges():
     yield 'two-8-10', bad + tail(24, 1, b=64, P=4096)
 
 
+def dropped():
+    """Pages that are dropped, seen in the lengths, in the victims and bytes behind them, and in the counts. Which of two empty frames a fault takes is in no
+    listing: sweep's digests have E place by place."""
+    yield 'drop-clean', trace(told('R0 R1 D0 R2 R3'))
+    yield 'drop-dirty', trace(told('W0 W1 D0 R0 R2'))
+    yield 'drop-absent', trace(told('W5 F R0 R1 D5 R5'))
+    yield 'drop-twice', trace(told('W0 R1 D0 D0 R2 R3'))
+    yield 'drop-two', trace(told('R0 W1 R2 W3 D1 D2') + reads(4, 8), b=4)
+    yield 'drop-all', moved(told(' '.join('RW'[k % 2] + str(k) for k in range(64))), [('D', 0, k * 29 % 64) for k in range(64)], 'R')
+    for place in (0, 1, 62, 63):
+        yield 'drop-place-%d' % place, moved(reads(0, 64), [('D', 0, 63 - place)], 'R')
+    yield 'drop-each-second-dirty', moved(DIRTY, [('D', 0, page) for page in range(0, 64, 2)], 'W')
+    # nothing of it comes back: not from its frame, which another page then has, not by a flush; and its neighbours in the store stay
+    yield 'drop-frame-used-again', trace(told('W0 F W0 R1 D0 R2 R0 R2'))
+    yield 'drop-then-flush', trace(told('W0 F W0 W1 D0 F R0 R1'))
+    yield 'drop-neighbours', trace(told('W2 W3 W4 R0 D3 R2 R3 R4'), b=1)
+    yield 'drop-last-page', trace(told('W2046 W2047 F D2047 R2047 R0 R1 R2046'), N=2048)
+    yield 'drop-written-again', trace(told('W0 D0 W0 F R1 R2 R0'))
+    # an empty frame has page number 0, and yet not page 0
+    yield 'drop-page-0-absent', trace(told('D0 R1 D0 W2 D0 R0 R3 R4'), b=4)
+    yield 'drop-page-0', trace(told('W0 R1 D0 R0 D0 R2 R3 R4 R5'), b=4)
+    yield 'drop-one-frame', trace(told('W0 D0 R1 D0 W1 D1 D1 R0 W0 R1'), b=1, N=2)
+    # the target stays, and decides on later victims; the order of the rest stays, also through a flush
+    yield 'drop-target', trace(told('R0 W1 R0 D1 R0 D0 R2 W3 R2'))
+    yield 'drop-target-at-its-top', trace(told('R0 W1 R0 R0 R0 D0 R2 R3'), r=3, w=1)
+    yield 'drop-flush-order', trace(told('R0 W1 R2 W3 D1 F') + reads(4, 8), b=4)
+
+
 def cases():
     yield from edges()
+    yield from dropped()
     rng = random.Random(20101122)
     for k in range(150):
         yield 'random-%03d' % k, valid(rng)
+    rng = random.Random(20101298)
+    for k in range(30):
+        yield 'random-drop-%03d' % k, valid(rng, (0.1, 0.3)[k % 2])
 
 
 def main(words):

@@ -35,8 +35,8 @@ def allowed(b, P, N, r, w):
 
 
 class Pool:
-    """The pool by the scope's words: E, C, D hold frames, the most recently used first. A resident frame's reference is the number of the served call that
-    last read or wrote its page."""
+    """The pool by the scope's words: E, C, D hold frames, in C and D the most recently used first, in E the one that is taken next last. A resident frame's
+    reference is the number of the served call that last read or wrote its page."""
 
     def __init__(self, b, P, N, r, w):
         r, w = costs(r, w, USUAL_DRIVE)
@@ -166,6 +166,20 @@ class Pool:
         self.served += 1
         return n
 
+    def drop(self, page, frames, store):
+        """The page becomes zeros in the store, which is one physical write wherever it was. If a frame of C or D has it, that frame becomes the last of E: its
+        bytes stay there and are not written. No frame gets this call's number, and there is no further answer."""
+        self.examine(frames, store, page, True)
+        P = self.P
+        for f in self.C + self.D:
+            if self.page[f] == page:
+                (self.C if f in self.C else self.D).remove(f)
+                self.E.append(f)
+                self.page[f] = self.reference[f] = 0
+        store[page * P:page * P + P] = bytes(P)
+        self.nW += 1
+        self.served += 1
+
     def total(self):
         if not self.sound():
             raise Refused(2)
@@ -204,7 +218,7 @@ def records(data):
 def right(record, N):
     """Refusal 8's rule."""
     letter, value, page = record
-    return letter == 'R' and value == 0 and page < N or letter == 'W' and page < N or letter == 'F' and value == 0 and page == 0
+    return letter in 'RD' and value == 0 and page < N or letter == 'W' and page < N or letter == 'F' and value == 0 and page == 0
 
 
 def packed(record):
@@ -267,6 +281,10 @@ class Recorder:
         answer = pool.flush(frames, store)
         return answer, refusal(self.add, ('F', 0, 0), buffer)
 
+    def add_drop(self, pool, page, frames, store, buffer):
+        pool.drop(page, frames, store)
+        return None, refusal(self.add, ('D', 0, page), buffer)
+
 
 def begin(numbers, notes, buffer):
     """A recorder of no records, behind the notes at the front of the buffer."""
@@ -305,9 +323,13 @@ def listing(data):
         if letter == 'R':
             result, victim, written = pool.read(page, frames, store, out)
             byte = out[0]
-        else:
+        elif letter == 'W':
             result, victim, written = pool.write(page, 0, bytes([value]), frames, store)
             byte = value
+        else:
+            before = pool.nW
+            pool.drop(page, frames, store)
+            result, victim, written, byte = '-', None, pool.nW - before, store[page * P]
         lines.append('%d %s %d %s %s %d %d %d %d %d' % (k, letter, page, result, '-' if victim is None else victim[1], written,
                                                        len(pool.C), len(pool.D), pool.target, byte))
     lines.append('end %d %d %d' % (pool.nR, pool.nW, pool.total()))

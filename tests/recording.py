@@ -43,6 +43,8 @@ def record(recorder, pool, call, memory, buffer):
             answer, refused = recorder.add_write(pool, call['page'], call['start'], stretch(call['value'], call['length']), frames, store, buffer)
         elif call['letter'] == 'F':
             answer, refused = recorder.add_flush(pool, frames, store, buffer)
+        elif call['letter'] == 'D':
+            answer, refused = recorder.add_drop(pool, call['page'], frames, store, buffer)
         else:
             return None
     except Refused:
@@ -98,15 +100,16 @@ def changed(chance):
 
 
 def record_by(chance):
-    page = EDGES[chance // 4 % 16]
-    return (('R', 0, page), ('W', chance // 64 % 256, page), ('F', 0, 0), ('R', 0, chance // 4 % 10))[chance % 4]
+    page = EDGES[chance // 5 % 16]
+    return (('R', 0, page), ('W', chance // 80 % 256, page), ('F', 0, 0), ('R', 0, chance // 5 % 10), ('D', 0, page))[chance % 5]
 
 
 def add_by(recorder, record, chance, buffer):
-    """The record as it stands, or as that of a call: refused 6, a fault, a hit; of a flush: refused 3, or served."""
-    if chance % 8 in (0, 3):
-        raise Refused(6 if chance % 8 == 0 else 3)
-    recorder.add(('F', 0, 0) if chance % 8 == 4 else record, buffer)
+    """The record as it stands, or as that of a call: refused 6, a fault, a hit; of a flush: refused 3, or served; of a drop: refused 4, or served."""
+    how = chance % 10
+    if how in (0, 3, 5):
+        raise Refused({0: 6, 3: 3, 5: 4}[how])
+    recorder.add({4: ('F', 0, 0), 6: ('D', 0, EDGES[chance // 10 % 16])}.get(how, record), buffer)
 
 
 def lend(call, buffer, room=40):
@@ -163,7 +166,7 @@ class ByHand:
         record, room = record_by(chance), 20 + chance // 65536 % 24
         answer = lend(lambda part: add_by(added, record, chance // 4096, part), buffer, room)
         self.absorb(answer, buffer, added)
-        if chance // 4096 % 8 > 4:
+        if chance // 4096 % 10 > 6:
             self.stood('add', answer, recorder, recorder.count + 1, room)
             self.seen |= {(recorder.numbers[2], record[0], record[2], answer[0]), ('most', recorder.count == MOST_RECORDS, answer[0])}
         answer = lend(recorder.close, buffer, 20 + chance // 1024 % 24)
@@ -181,7 +184,7 @@ def by_hand():
         hand.by_hand(changed(seed), after(seed))
     # both sides of each edge were drawn: the buffer's end, the largest pages, the largest count and start, costs 0 and 0
     wanted = {(what, *side) for what in ('begin', 'add', 'close') for side in ((0, 0), (11, -1))}
-    wanted |= {(65536, letter, *side) for letter in 'RW' for side in ((65535, 0), (65536, 8))}
+    wanted |= {(65536, letter, *side) for letter in 'RWD' for side in ((65535, 0), (65536, 8))}
     wanted |= {('add', (8, 2 ** 32)), ('most', True, 11), ('add', 11, 'far', True), ('close', 11, 'far', True), ('copied', (0, 0)), ('copied', (1, 3))}
     assert wanted <= hand.seen, wanted - hand.seen
     print(hand.digest)

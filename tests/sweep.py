@@ -2,7 +2,8 @@
 """What the program `sweep` must print, from the plain model: digests of every short sequence of calls on a small pool, of random runs at every number of
 frames, and of calls on pools in which one thing was changed. crates/sweep/stdout holds it. Standard library only.
 
-  sweep.py            prints lines `small R W LENGTH DIGEST`, `random B DIGEST` and `broken B DIGEST`, and after the runs how often each answer came
+  sweep.py            prints lines `small R W LENGTH DIGEST`, `drops R W LENGTH DIGEST`, `random B DIGEST` and `broken B DIGEST`, and after the runs how often
+                      each answer came
 """
 import struct
 import sys
@@ -15,8 +16,8 @@ NUMBERS = ('b', 'P', 'N', 'r', 'w', 'empty_len', 'clean_len', 'dirty_len', 'targ
 MOST = 2 ** 64 - 1
 PACKED = struct.Struct('<12Q64s64s64s64H64I')
 
-# An answer's kind: a refusal's is the scope's number.
-HIT, FAULT, FLUSH, TOTAL = 11, {None: 12, 'clean': 13, 'dirty': 14}, 15, 16
+# An answer's kind: a refusal's is the scope's number; no call on a pool is refused 11.
+HIT, FAULT, FLUSH, TOTAL, DROP = 11, {None: 12, 'clean': 13, 'dirty': 14}, 15, 16, 17
 
 
 # ---- a pool as numbers and places, sound or not
@@ -93,6 +94,8 @@ def make(pool, call, memory):
             answer = pool.write(call['page'], call['start'], stretch(call['value'], call['length']), frames, store)
         elif call['letter'] == 'F':
             answer = pool.flush(frames, store)
+        elif call['letter'] == 'D':
+            answer = pool.drop(call['page'], frames, store)
         else:
             return TOTAL, pool.total()
     except Refused as no:
@@ -105,6 +108,8 @@ def said(answer):
     """What the model answers, as (kind, value)."""
     if isinstance(answer, int):
         return FLUSH, answer
+    if answer is None:
+        return DROP, 0
     if answer[0] == 'hit':
         return HIT, 0
     kind, page = answer[1] or (None, 0)
@@ -120,32 +125,33 @@ class Tally:
         self.counts[answer[0]] = self.counts.get(answer[0], 0) + 1
 
     def told(self):
-        n = [self.counts.get(kind, 0) for kind in range(17)]
-        return 'hits %d faults %d %d %d flushes %d totals %d refused %d %d %d %d %d' % tuple(n[11:17] + n[2:7])
+        kinds = HIT, *FAULT.values(), FLUSH, TOTAL, DROP, *range(2, 7)
+        return 'hits %d faults %d %d %d flushes %d totals %d drops %d refused %d %d %d %d %d' % tuple(self.counts.get(kind, 0) for kind in kinds)
 
 
 # ---- every short sequence
 
 def small_call(i, letter):
     page = letter % 3
-    return dict(letter='RWF'[letter // 3], page=page, start=5 * i % 12, length=i % 4 + 1, value=16 * i + page, frames=32, store=48, out=16)
+    return dict(letter='RRRWWWFDDD'[letter], page=page, start=5 * i % 12, length=i % 4 + 1, value=16 * i + page, frames=32, store=48, out=16)
 
 
-def small(r, w):
-    """Sequences that begin alike are served together: the model's pool is copied at each fork. Within one length they still come in order."""
-    tallies = [Tally() for _ in range(6)]
+def sequences(name, letters, lengths, r, w):
+    """Every sequence of the first so many letters, up to a length. Those that begin alike are served together: the model's pool is copied at each fork.
+    Within one length they still come in order."""
+    tallies = [Tally() for _ in range(lengths)]
 
     def go(i, pool, memory):
-        for letter in range(7):
+        for letter in range(letters):
             now, bytes_now = pool.copied(), memory.copy()
             answer = make(now, small_call(i, letter), bytes_now)
             tallies[i].absorb(answer, Raw(now), bytes_now)
-            if i < 5:
+            if i + 1 < lengths:
                 go(i + 1, now, bytes_now)
 
     go(0, Pool(2, 16, 3, r, w), Memory(32, 48, 16))
     for i, tally in enumerate(tallies):
-        print('small %d %d %d %d' % (r, w, i + 1, tally.digest))
+        print('%s %d %d %d %d' % (name, r, w, i + 1, tally.digest))
 
 
 # ---- random calls
@@ -171,7 +177,7 @@ def right_call(b, P, N, letter, chance):
 
 def random_call(b, P, N, seed):
     first, second = after(seed), after(seed, 2)
-    letter = 'F' if first % 50 == 0 else 'T' if first % 50 == 1 else 'R' if first % 50 <= 25 else 'W'
+    letter = ('F' + 'T' + 'R' * 24 + 'W' * 21 + 'D' * 3)[first % 50]
     call = right_call(b, P, N, letter, second)
     if first // 50 % 20 == 0:
         wrong = [('page', N), ('page', MOST), ('frames', b * P - 1), ('frames', b * P + 1), ('store', N * P - 1), ('store', N * P + 1),
@@ -217,7 +223,7 @@ def change(raw, seed):
 
 def try_letters(tally, numbers, raw, chance, memory):
     """Each call on the changed pool as it is: a broken one is refused 2, and nothing changes."""
-    for letter in 'RWFT':
+    for letter in 'RWFDT':
         if raw.sound():
             pool = raw.pool()
             answer = make(pool, right_call(*numbers, letter, chance), memory)
@@ -250,8 +256,8 @@ def runs(name, calls, broken):
 if __name__ == '__main__':
     if sys.argv[1:]:
         sys.exit(__doc__)
-    small(0, 0)
-    small(1, 1)
-    small(3, 2)
+    for costs in ((0, 0), (1, 1), (3, 2)):
+        sequences('small', 7, 6, *costs)
+    sequences('drops', 10, 5, 3, 2)
     runs('random', 2000, False)
     runs('broken', 250, True)

@@ -30,13 +30,13 @@ def judge_numbers(numbers):
 
 
 def judge_record(where, letter, value, page, pages):
-    if letter not in b'RWF':
-        raise Refused(8, '%s has letter %d, which is none of R, W and F' % (where, letter))
-    if letter in b'RF' and value != 0:
+    if letter not in b'RWFD':
+        raise Refused(8, '%s has letter %d, which is none of R, W, F and D' % (where, letter))
+    if letter in b'RFD' and value != 0:
         raise Refused(8, '%s: %c takes no value, and has %d' % (where, letter, value))
     if letter in b'F' and page != 0:
         raise Refused(8, '%s: F takes no page, and has %d' % (where, page))
-    if letter in b'RW' and pages <= page:
+    if letter in b'RWD' and pages <= page:
         raise Refused(8, '%s: there is no page %d among %d' % (where, page, pages))
 
 
@@ -60,7 +60,7 @@ def parsed(line):
     if word == 'hex':
         return word, bytes.fromhex(rest)
     values = [int(w, 10) for w in rest.split()]
-    struct.pack({'open': '<5I', 'R': '<I', 'W': '<IB', 'F': '<'}[word], *values)
+    struct.pack({'open': '<5I', 'R': '<I', 'W': '<IB', 'F': '<', 'D': '<I'}[word], *values)
     return word, values
 
 
@@ -72,7 +72,7 @@ def make(text):
         try:
             word, what = parsed(line.strip() if line.split()[0] not in ('note', 'hex') else line.lstrip())
         except (ValueError, KeyError, struct.error):
-            raise NoText('line %d is none of "open b P N r w", "note text", "hex digits", "R page", "W page value", "F": %s' % (k, line.strip()))
+            raise NoText('line %d is none of "open b P N r w", "note text", "hex digits", "R page", "W page value", "F", "D page": %s' % (k, line.strip()))
         if word == 'open':
             if numbers is not None:
                 raise NoText('line %d opens a second time: %s' % (k, line.strip()))
@@ -117,7 +117,7 @@ def show(data):
     for k in range(count):
         letter, value, page = struct.unpack('<BBH', body[4 * k:4 * k + 4])
         judge_record('record %d' % (k + 1), letter, value, page, numbers[2])
-        lines.append({'R': 'R %d' % page, 'W': 'W %d %d' % (page, value), 'F': 'F'}[chr(letter)])
+        lines.append({'R': 'R %d' % page, 'W': 'W %d %d' % (page, value), 'F': 'F', 'D': 'D %d' % page}[chr(letter)])
     return ('\n'.join(lines) + '\n').encode(), told(data, numbers)
 
 

@@ -38,6 +38,7 @@ THIN = [
     Call('read_page_in', 'casa', 'read_page', 'Served', 'Answer', 'page:usize frames:&mut store:&mut out:&mut'),
     Call('write_page_in', 'casa', 'write_page', 'Served', 'Answer', 'page:usize start:usize bytes:& frames:&mut store:&mut'),
     Call('flush_in', 'casa', 'flush', 'Flushed', 'Flushing', 'frames:& store:&mut'),
+    Call('drop_page_in', 'casa', 'drop_page', 'Dropped', 'Dropping', 'page:usize frames:& store:&mut'),
 ]
 
 OWNING = [

@@ -9,7 +9,7 @@ fn wide(x: u16) -> usize {
     x as usize
 }
 
-// One request: 0 reads a page, 1 writes eight bytes of it, anything else flushes.
+// One request: 0 reads a page, 1 writes eight bytes of it, 3 drops it, anything else flushes.
 fn serve(
     pool: Pool,
     op: u8,
@@ -26,6 +26,10 @@ fn serve(
         let bytes = [1u8; 8];
         let served = casa::write_page(pool, page, 0, &bytes, frames, store);
         return served.pool;
+    }
+    if op == 3 {
+        let dropped = casa::drop_page(pool, page, frames, store);
+        return dropped.pool;
     }
     let flushed = casa::flush(pool, frames, store);
     flushed.pool

@@ -53,6 +53,7 @@ fn record_by(op: u8, page: usize) -> Record {
     match op {
         2 => Record::Flush,
         3 => Record::Read(page),
+        4 => Record::Drop(page),
         _ => Record::Write(page, op),
     }
 }

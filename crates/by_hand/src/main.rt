@@ -3,6 +3,7 @@
 use calls::at_most;
 use calls::chance;
 use model::Answer;
+use model::Dropping;
 use model::Flushing;
 use model::Refusal;
 use model::Victim;
@@ -77,23 +78,32 @@ fn changed(recorder: Recorder, chance: usize) -> Recorder {
 // ---- calls on it
 
 fn record_by(chance: usize) -> Record {
-    let page = edge(chance / 4);
-    match chance % 4 {
+    let page = edge(chance / 5);
+    match chance % 5 {
         0 => Record::Read(page),
-        1 => Record::Write(page, (chance / 64 % 256) as u8),
+        1 => Record::Write(page, (chance / 80 % 256) as u8),
         2 => Record::Flush,
-        _ => Record::Read(chance / 4 % 10),
+        3 => Record::Read(chance / 5 % 10),
+        _ => Record::Drop(page),
     }
 }
 
 // The record is added as it stands, or as that of a call which gave this answer.
 fn add_by(recorder: Recorder, what: Record, chance: usize, buffer: &mut [u8]) -> Recorded {
-    match chance % 8 {
+    let page = edge(chance / 10);
+    match chance % 10 {
         0 => recorder::add_served(recorder, Answer::Refused(Refusal::Spent), what, buffer),
         1 => recorder::add_served(recorder, Answer::Fault(Victim::None), what, buffer),
         2 => recorder::add_served(recorder, Answer::Hit, what, buffer),
         3 => recorder::add_flushed(recorder, Flushing::Refused(Refusal::WrongMemory), buffer),
         4 => recorder::add_flushed(recorder, Flushing::Wrote(3), buffer),
+        5 => recorder::add_dropped(
+            recorder,
+            Dropping::Refused(Refusal::NoSuchPage),
+            page,
+            buffer,
+        ),
+        6 => recorder::add_dropped(recorder, Dropping::Dropped, page, buffer),
         _ => recorder::add(recorder, what, buffer),
     }
 }

@@ -141,13 +141,14 @@ fn wrong_call(call: Call, world: World, which: usize) -> Call {
     wrong
 }
 
-// Of 50 calls one is a flush and one the total; the others are reads and writes.
+// Of 50 calls one is a flush, one the total, and three are drops; the others are reads and writes.
 fn letter_by(chance: usize) -> u8 {
     match chance % 50 {
         0 => b'F',
         1 => b'T',
         2..=25 => b'R',
-        _ => b'W',
+        26..=46 => b'W',
+        _ => b'D',
     }
 }
 

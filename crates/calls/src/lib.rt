@@ -1,14 +1,12 @@
-// Calls as data, for a program that makes them in large numbers: a call and its answer as numbers; `chance` makes calls up, `change` spoils pools
-// and `turns` says which call a run makes next.
+// Calls as data, for a program that makes them in large numbers: a call and its answer as numbers; `chance` makes calls up.
 ghost use Prim.Native.Nat.{_≤_};
 
 pub mod chance;
-pub mod change;
-pub mod turns;
 
 use casa::Served;
 use model::Answer;
 use model::Costing;
+use model::Dropping;
 use model::Flushing;
 use model::Refusal;
 use model::Victim;
@@ -34,7 +32,9 @@ pub const FLUSH: usize = 15;
 
 pub const TOTAL: usize = 16;
 
-pub const KINDS: usize = 17;
+pub const DROP: usize = 17;
+
+pub const KINDS: usize = 18;
 
 fn said_refusal(why: Refusal) -> Said {
     let kind = model::number_of(why) as usize;
@@ -79,6 +79,16 @@ pub fn said_flush(answer: Flushing) -> Said {
     }
 }
 
+pub fn said_drop(answer: Dropping) -> Said {
+    match answer {
+        Dropping::Refused(why) => said_refusal(why),
+        Dropping::Dropped => Said {
+            kind: DROP,
+            value: 0,
+        },
+    }
+}
+
 fn said_total(answer: Costing) -> Said {
     match answer {
         Costing::Refused(why) => said_refusal(why),
@@ -107,6 +117,14 @@ pub struct Call {
 pub struct Left {
     pub pool: Pool,
     pub said: Said,
+}
+
+// The answer, and every field of the pool.
+pub fn absorb(digest: u32, left: Left) -> u32 {
+    let said = left.said;
+    let pool = left.pool;
+    let answer = [said.kind as u64, said.value];
+    digest::absorb_pool(digest::absorb_numbers(digest, 8, &answer), pool)
 }
 
 // The longest stretch that is written.
@@ -159,6 +177,14 @@ fn flush(pool: Pool, frames: &[u8], store: &mut [u8]) -> Left {
     Left { pool: next, said }
 }
 
+fn drop(pool: Pool, page: usize, frames: &[u8], store: &mut [u8]) -> Left {
+    let dropped = casa::drop_page(pool, page, frames, store);
+    let next = dropped.pool;
+    let answer = dropped.answer;
+    let said = said_drop(answer);
+    Left { pool: next, said }
+}
+
 fn total(pool: Pool) -> Left {
     let answer = casa::total(pool);
     let said = said_total(answer);
@@ -171,6 +197,7 @@ fn serve(pool: Pool, call: Call, frames: &mut [u8], store: &mut [u8], out: &mut 
         b'R' => read(pool, call.page, frames, store, out),
         b'W' => write(pool, call, frames, store),
         b'F' => flush(pool, frames, store),
+        b'D' => drop(pool, call.page, frames, store),
         _ => total(pool),
     }
 }

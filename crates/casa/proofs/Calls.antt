@@ -5,28 +5,29 @@ use mathlib.Core.List.{List, [], _∷_}
 use Prim.Native.Nat.{ℕ, suc, _+_, _*_, _≤_, _<_, zero-le, suc-le-suc}
 use native.Mathlib.Nat.{le-trans, mul-le-mul}
 use native.Mathlib.Omega.{arith}
-use lib.ListN.{length, getD, take, List·getD-append}
+use lib.ListN.{length, getD, take, replicate, List·getD-append}
 use Rattle.order.specs.Places.{places, pad}
 use Rattle.order.proofs.Count.{count-here}
 use Rattle.checks.specs.Tests.{Decides}
-use Rattle.pages.specs.Pages.{splice, pageOf, InPages}
+use Rattle.pages.specs.Pages.{splice, pageOf, withPage, InPages}
 use Rattle.pages.specs.Memory.{writtenBack, FrameIn}
 use Rattle.pages.proofs.Pages.{page-in}
 use Rattle.model.specs.Numbers.{numbers, mostServed}
-use Rattle.model.specs.Words.{flushed as saidFlushed, total as saidTotal, answerSays, refusalSays}
+use Rattle.model.specs.Words.{flushed as saidFlushed, dropped as saidDropped, total as saidTotal, answerSays, refusalSays}
 use Rattle.model.specs.Frames.{Step as Step-of}
 use Rattle.model.specs.Policy.{Outcome}
 use Rattle.model.specs.State.{State, framesOf}
-use Rattle.model.specs.Request.{request, flushed}
+use Rattle.model.specs.Request.{request, flushed, dropped}
 use Rattle.model.specs.Bytes.{brought, memory}
-use Rattle.model.specs.Refusals.{requestVerdict, flushVerdict, outputFits, stretchFits, Ready}
+use Rattle.model.specs.Refusals.{requestVerdict, flushVerdict, dropVerdict, outputFits, stretchFits, Ready}
 use Rattle.model.specs.Target.{costsOf}
-use Rattle.model.specs.Run.{Call, World, read, write, flush, total, verdictOf, leftBy, left}
+use Rattle.model.specs.Run.{Call, World, read, write, flush, drop, total, verdictOf, leftBy, left}
 use Rattle.model.specs.declared.Op.{Op}
 use Rattle.model.specs.declared.Op.the-variants.{Read, Write}
 use Rattle.model.specs.declared.Refusal.{Refusal}
 use Rattle.model.specs.declared.Refusal.the-variants.{BrokenPool}
 use Rattle.model.specs.declared.Flushing.the-variants.{Wrote}
+use Rattle.model.specs.declared.Dropping.the-variants.{Dropped}
 use Rattle.model.specs.declared.Verdict.{Verdict}
 use Rattle.model.specs.declared.Verdict.the-variants.{Fine, Refused}
 use Rattle.model.proofs.Good.{D-below}
@@ -40,9 +41,9 @@ use Rattle.pool.proofs.Form.{dirty-in-places, dirty-frame, page-pad, listed-pag
 use Rattle.step.specs.Step.{stepOf}
 use Rattle.step.specs.declared.Step.{Step}
 use Rattle.serve.specs.Serve.{AnswerIn}
-use Rattle.serve.proofs.Verdicts.{flush-as-request}
+use Rattle.serve.proofs.Verdicts.{flush-as-request, drop-as-request}
 use Rattle.serve.proofs.Brought.{answer-in}
-use Rattle.casa.specs.Calls.{pools, after, servedAfter, servedLeft, flushedLeft}
+use Rattle.casa.specs.Calls.{pools, after, servedAfter, servedLeft, flushedLeft, droppedLeft}
 
 -- ---- a request: x is what the step gave
 
@@ -139,6 +140,14 @@ module _ (p : Pool) (s : Sound p) where
       k ∙ ap (λ (z : List ℕ). writtenBack (p .«page_bytes») z F D S) (page-pad p s) ∙ writtenBack-pad _ page F D S b in
       λ i. record { state = e i; said = saidFlushed (sym (dirty-in-places p s .len) i); memory = memory F (w i); out = [] }
 
+-- ---- a drop
+
+pub drop-served : (p : Pool) (page : ℕ) (F S S′ : List ℕ) (q : Pool) → q ≡ poolOf (dropped (stateOf p) page)
+    → S′ ≡ withPage (p .«page_bytes») page (replicate (p .«page_bytes») 0) S
+    → droppedLeft (record { pool = q; answer = Dropped }) F S′ ≡ servedAfter p F S (drop page)
+unfolding servedAfter
+drop-served p page F S S′ q e k = λ i. record { state = e i; said = saidDropped; memory = memory F (k i); out = [] }
+
 -- ---- v is the verdict of a call: refused, it leaves everything, and else it is served
 
 module _ (x : World Pool) (c : Call) (v : Verdict) (e : v ≡ verdictOf pools x c) where
@@ -179,6 +188,10 @@ module _ (x : World Pool) (v : Verdict) (t : Bool) (sound : t ≡ soundB (x .sta
   pub flush-verdict : Found 0 true → v ≡ verdictOf pools x flush
   unfolding flushVerdict
   flush-verdict e = rw sound at (e ∙ flush-as-request t _ _ _ _ (λ k. sound-is (x .state) (sym sound ∙ k) .good .limits .N-low))
+
+  pub drop-verdict : (page : ℕ) → Found page true → v ≡ verdictOf pools x (drop page)
+  unfolding dropVerdict
+  drop-verdict page e = rw sound at (e ∙ drop-as-request t _ _ _ _ page)
 
 -- the total fits, and is the state's
 module _ (p : Pool) (s : Sound p) where

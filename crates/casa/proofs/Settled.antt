@@ -7,12 +7,13 @@ use Prim.Native.Nat.{ℕ}
 use Rattle.model.specs.Words.{Said, costingSays}
 use Rattle.model.specs.Run.{Left}
 use Rattle.model.specs.declared.Costing.{Costing}
-use Rattle.model.proofs.Words.{answer-one-to-one, opening-one-to-one, flushing-one-to-one, costing-one-to-one}
+use Rattle.model.proofs.Words.{answer-one-to-one, opening-one-to-one, flushing-one-to-one, dropping-one-to-one, costing-one-to-one}
 use Rattle.pool.specs.declared.Pool.{Pool}
-use Rattle.casa.specs.Calls.{OpenLeft, openLeft, servedLeft, flushedLeft}
+use Rattle.casa.specs.Calls.{OpenLeft, openLeft, servedLeft, flushedLeft, droppedLeft}
 use Rattle.casa.specs.declared.Opened.{Opened}
 use Rattle.casa.specs.declared.Served.{Served}
 use Rattle.casa.specs.declared.Flushed.{Flushed}
+use Rattle.casa.specs.declared.Dropped.{Dropped}
 
 pub open-settled : (l : OpenLeft) (r t : Opened) → openLeft r ≡ l → openLeft t ≡ l → r ≡ t
 open-settled l r t a b =
@@ -33,6 +34,13 @@ pub flushed-settled : (l : Left Pool) (r t : Flushed) (F₁ S₁ F₂ S₂ : Lis
 flushed-settled l r t F₁ S₁ F₂ S₂ a b =
     let e : flushedLeft r F₁ S₁ ≡ flushedLeft t F₂ S₂ = a ∙ sym b in
     let d = flushing-one-to-one (r .answer) (t .answer) (ap (λ (x : Left Pool). x .said) e) in
+    ((λ i. record { pool = e i .state; answer = d i }), (λ i. e i .memory .frames), (λ i. e i .memory .store))
+
+pub dropped-settled : (l : Left Pool) (r t : Dropped) (F₁ S₁ F₂ S₂ : List ℕ)
+    → droppedLeft r F₁ S₁ ≡ l → droppedLeft t F₂ S₂ ≡ l → (r ≡ t) × (F₁ ≡ F₂) × (S₁ ≡ S₂)
+dropped-settled l r t F₁ S₁ F₂ S₂ a b =
+    let e : droppedLeft r F₁ S₁ ≡ droppedLeft t F₂ S₂ = a ∙ sym b in
+    let d = dropping-one-to-one (r .answer) (t .answer) (ap (λ (x : Left Pool). x .said) e) in
     ((λ i. record { pool = e i .state; answer = d i }), (λ i. e i .memory .frames), (λ i. e i .memory .store))
 
 pub total-settled : (l : Said) (r t : Costing) → costingSays r ≡ l → costingSays t ≡ l → r ≡ t

@@ -1,8 +1,8 @@
 -- CASA's pools as a policy, and what each public call leaves, for every input: the pool, what is said, and every lent byte. The promises state it, whole;
--- what a read, a write, a flush or a total leaves is said once for any policy, by model's `left`.
+-- what a read, a write, a flush, a drop or a total leaves is said once for any policy, by model's `left`.
 --     pools        CASA's pools as a policy
 --     after        what a call leaves of a pool, the frame memory and the store that it was lent
---     servedLeft, flushedLeft, openLeft    what a call returned, with the lent bytes as it left them
+--     servedLeft, flushedLeft, droppedLeft, openLeft    what a call returned, with the lent bytes as it left them
 --     openAfter    what opening leaves
 -- Assumes nothing.
 use mathlib.Core.List.{List, [], _∷_}
@@ -10,7 +10,7 @@ use Prim.Native.Nat.{ℕ}
 use lib.ListN.{replicate}
 use Rattle.order.specs.Places.{places}
 use Rattle.model.specs.Numbers.{Numbers, meant}
-use Rattle.model.specs.Words.{Said, opened as saidOpened, refusalSays, answerSays, openingSays, flushingSays}
+use Rattle.model.specs.Words.{Said, opened as saidOpened, refusalSays, answerSays, openingSays, flushingSays, droppingSays}
 use Rattle.model.specs.Policy.{Policy, pooled}
 use Rattle.model.specs.State.{opened}
 use Rattle.model.specs.Request.{states}
@@ -25,6 +25,7 @@ use Rattle.pool.specs.declared.Pool.{Pool}
 use Rattle.casa.specs.declared.Opened.{Opened}
 use Rattle.casa.specs.declared.Served.{Served}
 use Rattle.casa.specs.declared.Flushed.{Flushed}
+use Rattle.casa.specs.declared.Dropped.{Dropped}
 
 -- ---- what a call leaves of a pool
 
@@ -42,13 +43,16 @@ after p frames store c = left pools (worldOf p frames store) c
 unfoldable pub servedAfter : Pool → List ℕ → List ℕ → Call → Left Pool
 servedAfter p frames store c = served pools (worldOf p frames store) c
 
--- ---- what a call returned: a read or a write, and a flush, which has no output
+-- ---- what a call returned: a read or a write; a flush and a drop, which have no output
 
 abbrev pub servedLeft : Served → List ℕ → List ℕ → List ℕ → Left Pool
 servedLeft r frames store out = record { state = r .pool; said = answerSays (r .answer); memory = memory frames store; out = out }
 
 abbrev pub flushedLeft : Flushed → List ℕ → List ℕ → Left Pool
 flushedLeft r frames store = record { state = r .pool; said = flushingSays (r .answer); memory = memory frames store; out = [] }
+
+abbrev pub droppedLeft : Dropped → List ℕ → List ℕ → Left Pool
+droppedLeft r frames store = record { state = r .pool; said = droppingSays (r .answer); memory = memory frames store; out = [] }
 
 -- ---- open
 

@@ -6,9 +6,11 @@ ghost use lib.ListN.{length};
 ghost use Rattle.model.specs.Refusals.{Ready};
 ghost use Rattle.model.specs.Run as run;
 ghost use Rattle.pool.specs.Pool.{numbersIn, Sound};
-ghost use Rattle.casa.specs.Calls.{servedAfter, servedLeft, flushedLeft};
+ghost use Rattle.casa.specs.Calls.{servedAfter, servedLeft, flushedLeft, droppedLeft};
+use crate::Dropped;
 use crate::Flushed;
 use crate::Served;
+use model::Dropping;
 use model::Flushing;
 use pool::Pool;
 
@@ -70,5 +72,20 @@ pub fn flush(pool: Pool, frames: &[u8], store: &mut [u8]) -> Flushed
     Flushed {
         pool: next,
         answer: Flushing::Wrote(n),
+    }
+}
+
+// A drop: zeros over the page in the store, and the step on the lists.
+pub fn drop(pool: Pool, page: usize, frames: &[u8], store: &mut [u8]) -> Dropped
+    requires { ⌜ Sound pool ⌝ }
+    requires { ⌜ Ready (numbersIn pool) (pool .served) (length (now frames)) (length (now store)) × (page < pool .pages) ⌝ }
+    ensures { λ r. ⌜ droppedLeft r (now (frames .entry)) (now (store .exit)) ≡ servedAfter pool (now (frames .entry)) (now (store .entry)) (run.drop page) ⌝ }
+{
+    let size = pool.page_bytes;
+    pages::wipe(store, page, size);
+    let dropped = step::drop_lists(pool, page);
+    Dropped {
+        pool: dropped,
+        answer: Dropping::Dropped,
     }
 }

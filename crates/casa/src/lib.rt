@@ -1,16 +1,17 @@
-// The public calls of the page buffer, on a pool that is handed in and handed back: open, read, write, flush and total. Every call takes any numbers, any
+// The public calls of the page buffer, on a pool that is handed in and handed back: open, read, write, flush, drop and total. Every call takes any numbers, any
 // bytes and any pool; what cannot be served is refused with the scope's number, and a refused call changes nothing.
 ghost use mathlib.Core.Path.{_≡_};
 ghost use mathlib.Core.List.{[]};
 ghost use Rattle.model.specs.Words.{costingSays};
 ghost use Rattle.model.specs.Run as run;
 ghost use Rattle.model.specs.Numbers.{numbers};
-ghost use Rattle.casa.specs.Calls.{openBy, openAfter, openLeft, after, servedLeft, flushedLeft};
+ghost use Rattle.casa.specs.Calls.{openBy, openAfter, openLeft, after, servedLeft, flushedLeft, droppedLeft};
 
 mod fine;
 
 use model::Answer;
 use model::Costing;
+use model::Dropping;
 use model::Flushing;
 use model::Opening;
 use model::Refusal;
@@ -32,6 +33,11 @@ pub struct Served {
 pub struct Flushed {
     pub pool: Pool,
     pub answer: Flushing,
+}
+
+pub struct Dropped {
+    pub pool: Pool,
+    pub answer: Dropping,
 }
 
 // ---- open
@@ -176,6 +182,34 @@ pub fn flush(pool: Pool, frames: &[u8], store: &mut [u8]) -> Flushed
             answer: Flushing::Refused(why),
         },
         Verdict::Fine => fine::flush(pool, frames, store),
+    }
+}
+
+// ---- drop
+
+// Cuts a page for good: its bytes in the store become zero, and a frame that has it is free again, what is in it lost. The frame memory is lent to be measured
+// alone. Refused: 2, 3, 4, 6, as a request for the page is whose bytes fit.
+pub fn drop_page(pool: Pool, page: usize, frames: &[u8], store: &mut [u8]) -> Dropped
+    ensures { λ r. ⌜ droppedLeft r (now (frames .entry)) (now (store .exit)) ≡ after pool (now (frames .entry)) (now (store .entry)) (run.drop page) ⌝ }
+{
+    let sound = pool::sound(pool);
+    let verdict = serve::request_verdict(
+        sound,
+        pool.frames,
+        pool.page_bytes,
+        pool.pages,
+        pool.served,
+        frames.len(),
+        store.len(),
+        page,
+        true,
+    );
+    match verdict {
+        Verdict::Refused(why) => Dropped {
+            pool,
+            answer: Dropping::Refused(why),
+        },
+        Verdict::Fine => fine::drop(pool, page, frames, store),
     }
 }
 

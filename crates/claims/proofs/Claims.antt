@@ -1,17 +1,18 @@
 -- The three demands, as theorems about the public calls; each proof is a citation. What a call leaves of a pool and of the bytes lent to it, `left pools`, is
 -- what its promise states, whole (`casa`'s specs/Calls.antt, `model`'s specs/Run.antt); the other words stand in specs/World.antt here and in `model`'s specs.
 --
--- Where the hypotheses come from: `openVerdict n ≡ Fine` says that the open was accepted; `verdictOf .. ≡ Fine` that this very call is served; that no frame is
--- empty, that the page is in no frame and that the clean list is further from the exact target are the third demand's own "whenever". Nothing is asked of a
--- pool that was opened and used through its calls: `used-sound` gives it.
+-- Where the hypotheses come from: `openVerdict n ≡ Fine` says that the open was accepted; `verdictOf .. ≡ Fine` that this very call is served; that the page is in
+-- no frame says that the call is a fault; that no frame is empty and that the clean list is further from the exact target are the third demand's own
+-- "whenever"; that a frame has the page is a drop's "if it was resident". Nothing is asked of a pool that was opened and used through its calls: `used-sound`
+-- gives it.
 --
 -- Then the writer of trace files. `beginVerdict .. ≡ Fine` says that the trace was begun; `AllBelow 256` that a file is bytes; `roomFor .. ≡ true` that
 -- there was room for all records; the lengths that memory lent to a run of the trace is of the right sizes. Assumes nothing.
 use mathlib.Core.Path.{_≡_, ap}
 use mathlib.Core.Bool.{true}
-use mathlib.Core.List.{List, _++_}
+use mathlib.Core.List.{List, [], _∷_, _++_}
 use Prim.Native.Nat.{ℕ, _*_, _≤_, _<_}
-use lib.ListN.{length, getD, take}
+use lib.ListN.{length, getD, take, replicate}
 use Rattle.little.specs.Little.{AllBelow}
 use Rattle.pages.specs.Pages.{pageOf}
 use Rattle.model.specs.Numbers.{Numbers, Limits, meant}
@@ -22,7 +23,7 @@ use Rattle.model.specs.Target.{Adjustment, Exact, exactZero, exactAll, WithinUn
 use Rattle.model.specs.Refusals.{openVerdict, GivenBy}
 use Rattle.model.specs.Request.{locate}
 use Rattle.model.specs.Moves.{laid}
-use Rattle.model.specs.Run.{Call, read, write, outputOf, World, furtherRows, verdictOf, costsIn, left, afterAll, history, gathered}
+use Rattle.model.specs.Run.{Call, read, write, drop, outputOf, World, furtherRows, verdictOf, costsIn, left, after, afterAll, history, gathered}
 use Rattle.model.specs.Table.{worked, expected}
 use Rattle.model.specs.declared.Place.the-variants.{Absent}
 use Rattle.model.specs.declared.Refusal.{Refusal}
@@ -44,12 +45,13 @@ use Rattle.recorder.specs.Words.{refusalSays as recorderSays}
 use Rattle.recorder.specs.Calls.{zeroRecorder, roomFor, beginRows, addRows, closeRows, beginVerdict, addVerdict, closeVerdict, beginAfter, addAfter, closeAfter}
 use Rattle.recorder.specs.Runs.{Tape, tapeOf, afterAdds, afterClose, kept, Reads, valueOf, recordsOf, shown, afterRecording, callsOf}
 use Rattle.recorder.specs.declared.Recorder.{Recorder}
-use Rattle.claims.specs.World.{Exactly, Broken, Says, TraceSays, opened, ClosesAs, Followed, adjusting, LatestFirst, Asks, lastSaid, headerRows, checkRows}
+use Rattle.claims.specs.World.{Exactly, Broken, Says, TraceSays, opened, ClosesAs, Followed, adjusting, LatestFirst, Asks, Took, lastSaid, headerRows, checkRows}
 use Rattle.claims.proofs.Opening as opening
 use Rattle.claims.proofs.Traces as traces
 use Rattle.claims.proofs.Refused as refusing
 use Rattle.claims.proofs.Recorded as recording
 use Rattle.claims.proofs.Runs.{run-sound, run-read, call-follows}
+use Rattle.claims.proofs.Drops.{run-cut, drop-last, last-taken}
 use Rattle.claims.proofs.Drift.{run-near, run-bounded, victim-said}
 use Rattle.claims.proofs.References.{run-tracked, run-ordered}
 
@@ -121,10 +123,25 @@ module _ (n : Numbers) (accepted : openVerdict n ≡ Fine) (frames store : List 
   pub demand-2-follows : (c : Call) → verdictOf pools used c ≡ Fine → Followed (costsIn pools used) (stateOf (used .state)) (used .memory) c (left pools used c)
   demand-2-follows = call-follows used used-sound
 
-  -- and a read that is served returns the page as the store first had it with all served writes laid over it in order
+  -- and a read that is served returns the page as the store first had it with all served writes laid over it in order, a drop being a write of P zeros
   pub demand-2 : (page : ℕ) (out : List ℕ) → verdictOf pools used (read page out) ≡ Fine
       → left pools used (read page out) .out ≡ history pools (opened n frames store) cs (λ p. pageOf (meant n .P) p store) page
   demand-2 = run-read n accepted frames store cs
+
+  -- so a page that is read next behind its drop is zeros
+  pub demand-2-cut : (page : ℕ) (out : List ℕ) → verdictOf pools used (drop page) ≡ Fine → verdictOf pools (after pools used (drop page)) (read page out) ≡ Fine
+      → left pools (after pools used (drop page)) (read page out) .out ≡ replicate (meant n .P) 0
+  demand-2-cut = run-cut n accepted frames store cs
+
+  -- "its frame leaves C or D and becomes the tail of E"
+  pub drop-tail : (page f : ℕ) → 1 ≤ resident (stateOf (used .state) .lists) f → pageIn (stateOf (used .state)) f ≡ page
+      → verdictOf pools used (drop page) ≡ Fine → stateOf (after pools used (drop page) .state) .lists .E ≡ stateOf (used .state) .lists .E ++ (f ∷ [])
+  drop-tail = drop-last used used-sound
+
+  -- "so the next fault uses it": a fault takes the tail of E, for no victim, and leaves the others, so of two drops the frame of the later one is used first
+  pub tail-taken : (f : ℕ) (E : List ℕ) → stateOf (used .state) .lists .E ≡ E ++ (f ∷ []) → (page : ℕ) → locate (stateOf (used .state)) page ≡ Absent
+      → (c : Call) → Asks page c → verdictOf pools used c ≡ Fine → Took page f E (left pools used c)
+  tail-taken = last-taken used used-sound
 
   -- ---- either list is ordered by last reference, as the paper's section 4.1 wants it
 

@@ -13,7 +13,7 @@ use Rattle.model.specs.Target.{Costs, Adjustment, Exact, exactZero, exactAll, W
 use Rattle.model.specs.State.{State, opened as openedState}
 use Rattle.model.specs.Refusals.{openVerdict}
 use Rattle.model.specs.Request.{locate, victimBy, chosen, taken, request, requestAt}
-use Rattle.model.specs.Run.{Call, read, write, flush, total, World, verdictOf, costsIn, left, after, afterAll, broughtBy, gathered}
+use Rattle.model.specs.Run.{Call, read, write, flush, drop, total, World, verdictOf, costsIn, left, after, afterAll, broughtBy, gathered}
 use Rattle.model.specs.declared.Op.{Op}
 use Rattle.model.specs.declared.Op.the-variants.{Read, Write}
 use Rattle.model.specs.declared.Place.{Place}
@@ -21,7 +21,7 @@ use Rattle.model.specs.declared.Place.the-variants.{Absent}
 use Rattle.model.specs.declared.Choice.{Choice}
 use Rattle.model.specs.declared.Verdict.the-variants.{Fine}
 use Rattle.model.proofs.Drift.{target-within, exact-bounded, victim-same}
-use Rattle.model.proofs.Adjust.{Adjusted, stays, request-adjusted, flush-adjusted, adjusted-append}
+use Rattle.model.proofs.Adjust.{Adjusted, stays, request-adjusted, flush-adjusted, drop-adjusted, adjusted-append}
 use Rattle.model.proofs.Refusals.{call-cases}
 use Rattle.model.proofs.LastWritten.{call-good}
 use Rattle.model.proofs.Framed.{framed-lawful, framed-pooled}
@@ -57,6 +57,7 @@ module _ (x : World Pool) (s : Sound (x .state)) where
   call-moves (write q start bytes) =
       moved-by (write q start bytes) _ (λ e. call-follows x s (write q start bytes) e .0 .0) (request-adjusted Write (costsIn pools x) costs-some before q)
   call-moves flush = moved-by flush _ (λ e. call-follows x s flush e .0) (flush-adjusted before)
+  call-moves (drop q) = moved-by (drop q) _ (λ e. call-follows x s (drop q) e .0) (drop-adjusted before q)
   call-moves total = moved-by total _ (λ e. call-follows x s total e .0) (stays before before refl refl)
 
 pub run-moves : (cs : List Call) (x : World Pool) → Sound (x .state)
@@ -81,6 +82,10 @@ module _ (n : Numbers) (accepted : openVerdict n ≡ Fine) (frames store : List 
   run-moved =
       subst (λ (z : State). Adjusted z (stateOf (used .state)) made) (open-state n accepted frames store)
       (run-moves cs (opened n frames store) (open-sound n accepted))
+
+  -- the numbers that it was opened with
+  pub run-numbers : stateOf (used .state) .numbers ≡ meant n
+  run-numbers = run-moved .numbers
 
   pub run-near : WithinUnits (length made) (used .state .target) (exactAll (meant n .b) exactZero made)
   run-near = rw (run-moved .target) (target-within (meant n .b) made (run-moved .divide))

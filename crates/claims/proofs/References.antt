@@ -13,11 +13,11 @@ use Rattle.model.specs.Numbers.{Numbers}
 use Rattle.model.specs.State.{State, numberIn, resident}
 use Rattle.model.specs.Refusals.{openVerdict}
 use Rattle.model.specs.References.{Reference, referencing, lastReference}
-use Rattle.model.specs.Run.{Call, read, write, flush, total, World, verdictOf, costsIn, left, after, afterAll, broughtBy, gathered}
+use Rattle.model.specs.Run.{Call, read, write, flush, drop, total, World, verdictOf, costsIn, left, after, afterAll, broughtBy, gathered}
 use Rattle.model.specs.declared.Op.the-variants.{Read, Write}
 use Rattle.model.specs.declared.Verdict.the-variants.{Fine}
 use Rattle.model.proofs.Refusals.{call-cases, read-clear, write-clear}
-use Rattle.model.proofs.References.{Tracked, Tracks, request-tracks, flush-tracks, nothing-tracks, tracks-append}
+use Rattle.model.proofs.References.{Tracked, Tracks, request-tracks, flush-tracks, drop-tracks, nothing-tracks, tracks-append}
 use Rattle.model.proofs.Steps.{Whole}
 use Rattle.model.proofs.LastWritten.{call-good}
 use Rattle.model.proofs.Framed.{framed-lawful, framed-pooled}
@@ -56,6 +56,7 @@ module _ (x : World Pool) (s : Sound (x .state)) where
       tracked-by (write q start bytes) _ (λ e. call-follows x s (write q start bytes) e .0 .0)
       (λ e. let a = write-clear pools x q start bytes e in request-tracks before whole Write (costsIn pools x) q (a .2) (a .1 .more))
   call-tracks flush = tracked-by flush _ (λ e. call-follows x s flush e .0) (λ e. flush-tracks before whole)
+  call-tracks (drop q) = tracked-by (drop q) _ (λ e. call-follows x s (drop q) e .0) (λ e. drop-tracks before whole q)
   call-tracks total = tracked-by total _ (λ e. call-follows x s total e .0) (λ e. nothing-tracks before)
 
 run-tracks : (cs : List Call) (x : World Pool) → Sound (x .state)

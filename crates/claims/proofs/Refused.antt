@@ -5,7 +5,7 @@ use mathlib.Core.List.{List, [], _∷_}
 use native.Mathlib.Omega.{arith}
 use Rattle.model.specs.Words.{numberOf, refusalSays}
 use Rattle.model.specs.Refusals.{Row, GivenBy, here, later}
-use Rattle.model.specs.Run.{Call, read, write, flush, total, outputOf, World, Left, furtherRows, rowsOf, left}
+use Rattle.model.specs.Run.{Call, read, write, flush, drop, total, outputOf, World, Left, furtherRows, rowsOf, left}
 use Rattle.model.specs.declared.Refusal.{Refusal}
 use Rattle.model.specs.declared.Refusal.the-variants.{BrokenPool}
 use Rattle.model.proofs.Exactly as exactly
@@ -36,6 +36,7 @@ further-none : (x : World Pool) (c : Call) → NoneBroken (furtherRows pools x c
 further-none x (read q out) = (apart (λ e. omega arith), (apart (λ e. omega arith), (apart (λ e. omega arith), (apart (λ e. omega arith), tt))))
 further-none x (write q start bytes) = (apart (λ e. omega arith), (apart (λ e. omega arith), (apart (λ e. omega arith), (apart (λ e. omega arith), tt))))
 further-none x flush = (apart (λ e. omega arith), (apart (λ e. omega arith), tt))
+further-none x (drop q) = (apart (λ e. omega arith), (apart (λ e. omega arith), (apart (λ e. omega arith), tt)))
 further-none x total = tt
 
 module _ (x : World Pool) (c : Call) where

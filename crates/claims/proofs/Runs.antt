@@ -16,16 +16,16 @@ use Rattle.model.specs.Bytes.{Memory}
 use Rattle.model.specs.Moves.{Keeps}
 use Rattle.model.specs.Request.{flushed}
 use Rattle.model.specs.Refusals.{openVerdict}
-use Rattle.model.specs.Run.{Call, read, write, flush, total, World, rowsOf, verdictOf, costsIn, served, left, after, afterAll, history}
+use Rattle.model.specs.Run.{Call, read, write, flush, drop, total, World, rowsOf, verdictOf, costsIn, served, left, after, afterAll, history}
 use Rattle.model.specs.declared.Op.the-variants.{Read, Write}
 use Rattle.model.specs.declared.Verdict.the-variants.{Fine}
-use Rattle.model.proofs.Refusals.{call-cases, first-clear, not-false, read-clear, write-clear}
+use Rattle.model.proofs.Refusals.{call-cases, first-clear, not-false, read-clear, write-clear, drop-ready}
 use Rattle.model.proofs.Moves.{vacant-keeps}
 use Rattle.model.proofs.Outcomes.{keeps-same}
 use Rattle.model.proofs.Good.{opened-good}
 use Rattle.model.proofs.LastWritten.{run-good, Right, run-right, last-written}
 use Rattle.model.proofs.Framed.{framed-lawful, framed-pooled}
-use Rattle.model.proofs.Steps.{states-framed, request-stepped}
+use Rattle.model.proofs.Steps.{states-framed, request-stepped, drop-stepped}
 use Rattle.pool.specs.Pool.{stateOf, Sound}
 use Rattle.pool.specs.declared.Pool.{Pool}
 use Rattle.pool.proofs.Form.{state-pool}
@@ -50,6 +50,7 @@ sized-stays x h c = call-cases pools x c (λ l. _≡_ {A = World Pool} (record {
     stays-served (read q out) e = clash (not-false _ (first-clear (rowsOf pools x (read q out)) e .1 .0))
     stays-served (write q start bytes) e = clash (not-false _ (first-clear (rowsOf pools x (write q start bytes)) e .1 .0))
     stays-served flush e = clash (not-false _ (first-clear (rowsOf pools x flush) e .1 .0))
+    stays-served (drop q) e = clash (not-false _ (first-clear (rowsOf pools x (drop q)) e .1 .0))
     stays-served total e = refl
 
 run-stays : (cs : List Call) (x : World Pool) → sized x ≡ false → afterAll pools x cs ≡ x
@@ -72,6 +73,9 @@ read-sized q out x e = not-false _ (first-clear (rowsOf pools x (read q out)) e 
 
 write-sized : (q start : ℕ) (bytes : List ℕ) → Sized (write q start bytes)
 write-sized q start bytes x e = not-false _ (first-clear (rowsOf pools x (write q start bytes)) e .1 .0)
+
+drop-sized : (q : ℕ) → Sized (drop q)
+drop-sized q x e = not-false _ (first-clear (rowsOf pools x (drop q)) e .1 .0)
 
 -- ---- a pool that is sound stays so
 
@@ -124,6 +128,9 @@ module _ (n : Numbers) (accepted : openVerdict n ≡ Fine) (frames store : List 
       → verdictOf pools (afterAll pools (opened n frames store) cs) (write q start bytes) ≡ Fine → Kept-so cs
   run-write-right cs q start bytes e = run-right-by (write q start bytes) (write-sized q start bytes) cs e
 
+  pub run-drop-right : (cs : List Call) (q : ℕ) → verdictOf pools (afterAll pools (opened n frames store) cs) (drop q) ≡ Fine → Kept-so cs
+  run-drop-right cs q e = run-right-by (drop q) (drop-sized q) cs e
+
 -- ---- a served call of a sound pool does what Algorithm 1 does
 
 module _ (x : World Pool) (s : Sound (x .state)) where
@@ -138,4 +145,8 @@ module _ (x : World Pool) (s : Sound (x .state)) where
       let t = request-stepped (stateOf (x .state)) (record { good = s .good; blank = s .blank }) q (a .2) (a .1 .more) Write (costsIn pools x) in
       rw e ((state-pool _ (t .good .good .placed .paged) (t .good .good .numbered .each), refl), refl)
   call-follows flush e = rw e (state-pool (flushed (stateOf (x .state))) (s .good .placed .paged) (s .good .numbered .each), refl, refl)
+  call-follows (drop q) e =
+      let a = drop-ready pools x q e in
+      let t = drop-stepped (stateOf (x .state)) (record { good = s .good; blank = s .blank }) q (a .1 .more) in
+      rw e (state-pool _ (t .good .good .placed .paged) (t .good .good .numbered .each), refl, refl)
   call-follows total e = rw e (refl, refl, refl)

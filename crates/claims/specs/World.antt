@@ -1,22 +1,22 @@
 -- What the demands speak of, beside the calls: what is said, the world after an accepted open, what Algorithm 1 makes of a call, the adjustments of a run,
--- lists by last reference, the pages at the ends of the lists, and the rows of a trace.
+-- lists by last reference, the frame that a fault took, the pages at the ends of the lists, and the rows of a trace.
 -- Assumes nothing.
 use mathlib.Core.Path.{_≡_}
 use mathlib.Core.Bool.{Bool, not}
 use mathlib.Core.List.{List, [], _∷_, _++_}
-use Prim.Native.Nat.{ℕ, _-_, _<_}
+use Prim.Native.Nat.{ℕ, _-_, _≤_, _<_}
 use lib.Dec.{eqb, ltb}
 use lib.ListN.{length, getD, drop}
 use Rattle.pages.specs.Pages.{pageOf}
 use Rattle.model.specs.Numbers.{Numbers}
-use Rattle.model.specs.Words.{Said, flushed as saidFlushed, total as saidTotal, numberOf, namedBy, refusalSays, answerSays, faultSays}
+use Rattle.model.specs.Words.{Said, flushed as saidFlushed, fault as saidFault, dropped as saidDropped, total as saidTotal, numberOf, namedBy, refusalSays, answerSays, faultSays}
 use Rattle.model.specs.Target.{Costs, Adjustment}
 use Rattle.model.specs.Counts.{totalCost}
-use Rattle.model.specs.State.{State, pageIn}
-use Rattle.model.specs.Request.{victimBy, taken, request, flushed, adjustmentsOf}
+use Rattle.model.specs.State.{State, pageIn, resident}
+use Rattle.model.specs.Request.{victimBy, taken, request, flushed, dropped, adjustmentsOf}
 use Rattle.model.specs.Refusals.{Row}
-use Rattle.model.specs.Bytes.{Memory, brought, overlaid, flushedBytes}
-use Rattle.model.specs.Run.{Call, read, write, flush, total, World, Left, costsIn, left}
+use Rattle.model.specs.Bytes.{Memory, brought, overlaid, flushedBytes, wiped}
+use Rattle.model.specs.Run.{Call, read, write, flush, drop as dropPage, total, World, Left, costsIn, left}
 use Rattle.model.specs.declared.Op.{Op}
 use Rattle.model.specs.declared.Op.the-variants.{Read, Write}
 use Rattle.model.specs.declared.Refusal.{Refusal}
@@ -75,6 +75,7 @@ Followed k s m flush l =
     (stateOf (l .state) ≡ flushed s)
     × (l .said ≡ saidFlushed (length (s .lists .D)))
     × (l .memory ≡ flushedBytes (s .numbers .P) (s .page) (s .lists .D) m)
+Followed k s m (dropPage q) l = (stateOf (l .state) ≡ dropped s q) × (l .said ≡ saidDropped) × (l .memory ≡ wiped (s .numbers .P) q m)
 Followed k s m total l = (stateOf (l .state) ≡ s) × (l .said ≡ saidTotal (totalCost (s .numbers) (s .counts))) × (l .memory ≡ m)
 
 -- ---- the adjustments of the target that a call makes, with the list sizes that the pool has then
@@ -83,6 +84,7 @@ abbrev pub adjusting : World Pool → Call → List Adjustment
 adjusting x (read q out) = adjustmentsOf Read (costsIn pools x) (stateOf (x .state)) q
 adjusting x (write q start bytes) = adjustmentsOf Write (costsIn pools x) (stateOf (x .state)) q
 adjusting x flush = []
+adjusting x (dropPage q) = []
 adjusting x total = []
 
 -- ---- the pages of a list of frames, latest reference first, by what `last` says of each page
@@ -95,6 +97,14 @@ LatestFirst last s fs = (i j : ℕ) → i < j → j < length fs → last (pageIn
 pub data Asks (q : ℕ) : Call → Type 0 where
   reads : (out : List ℕ) → Asks q (read q out)
   writes : (start : ℕ) (bytes : List ℕ) → Asks q (write q start bytes)
+
+-- a call for page q leaves l: a fault without a victim, for which frame f has the page, and E of the empty frames are left
+abbrev pub Took : ℕ → ℕ → List ℕ → Left Pool → Type 0
+Took q f E l =
+    (l .said ≡ saidFault)
+    × (1 ≤ resident (stateOf (l .state) .lists) f)
+    × (pageIn (stateOf (l .state)) f ≡ q)
+    × (stateOf (l .state) .lists .E ≡ E)
 
 -- what a fault says that takes the page at the end of the list picked: C if it is above, else D, and C where D is empty
 abbrev pub lastSaid : State → Bool → Said

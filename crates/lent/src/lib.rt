@@ -3,9 +3,10 @@
 ghost use mathlib.Core.Path.{_≡_};
 ghost use mathlib.Core.List.{[]};
 ghost use Rattle.model.specs.Run as run;
-ghost use Rattle.casa.specs.Calls.{after, servedLeft, flushedLeft};
+ghost use Rattle.casa.specs.Calls.{after, servedLeft, flushedLeft, droppedLeft};
 use casa::Served;
 use model::Answer;
+use model::Dropping;
 use model::Flushing;
 use pool::Pool;
 
@@ -48,6 +49,16 @@ pub fn flush_in(pool: &mut Pool, frames: &[u8], store: &mut [u8]) -> Flushing
         after (now (pool .entry)) (now (frames .entry)) (now (store .entry)) run.flush ⌝ }
 {
     let done = casa::flush(*pool, frames, store);
+    *pool = done.pool;
+    done.answer
+}
+
+// Cuts a page for good. Refused: 2, 3, 4, 6.
+pub fn drop_page_in(pool: &mut Pool, page: usize, frames: &[u8], store: &mut [u8]) -> Dropping
+    ensures { λ r. ⌜ droppedLeft (record { pool = now (pool .exit); answer = r }) (now (frames .entry)) (now (store .exit)) ≡
+        after (now (pool .entry)) (now (frames .entry)) (now (store .entry)) (run.drop page) ⌝ }
+{
+    let done = casa::drop_page(*pool, page, frames, store);
     *pool = done.pool;
     done.answer
 }

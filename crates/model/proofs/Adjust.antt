@@ -1,5 +1,5 @@
--- A request moves the target by the adjustments that it makes, each with the sizes that the lists really have then, and a flush makes none. So after a run the
--- target is the start with the run's adjustments made in order, and the drift theorem speaks of it.
+-- A request moves the target by the adjustments that it makes, each with the sizes that the lists really have then, and a flush and a drop make none. So after a
+-- run the target is the start with the run's adjustments made in order, and the drift theorem speaks of it.
 -- Assumes nothing.
 use mathlib.Core.Path.{_≡_, refl, sym, _∙_}
 use mathlib.Core.List.{List, [], _∷_, _++_}
@@ -8,7 +8,7 @@ use native.Mathlib.Nat.{mul-pos}
 use native.Mathlib.Omega.{arith}
 use Rattle.model.specs.Target.{Costs, Adjustment, rounded, adjustBy, adjustAllBy}
 use Rattle.model.specs.State.{State}
-use Rattle.model.specs.Request.{locate, chosen, taken, faultInto, requestAt, request, flushed, adjustmentsAt, adjustmentsOf}
+use Rattle.model.specs.Request.{locate, chosen, taken, faultInto, requestAt, request, flushed, droppedAt, dropped, adjustmentsAt, adjustmentsOf}
 use Rattle.model.specs.declared.Op.{Op}
 use Rattle.model.specs.declared.Op.the-variants.{Read, Write}
 use Rattle.model.specs.declared.Place.{Place}
@@ -49,6 +49,14 @@ request-adjusted op k h s q = place-adjusted op k h s q (locate s q) (locate-rig
 
 pub flush-adjusted : (s : State) → Adjusted s (flushed s) []
 flush-adjusted s = stays s (flushed s) refl refl
+
+pub drop-adjusted : (s : State) (q : ℕ) → Adjusted s (dropped s q) []
+drop-adjusted s q = go (locate s q)
+  where
+    go : (x : Place) → Adjusted s (droppedAt s x) []
+    go (InClean i) = stays _ _ refl refl
+    go (InDirty i) = stays _ _ refl refl
+    go Absent = stays _ _ refl refl
 
 -- ---- one after the other
 

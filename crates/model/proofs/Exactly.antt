@@ -1,5 +1,5 @@
 -- A call says a refusal exactly when that refusal's row is the first whose condition holds, and then it leaves everything. A call that is served says no
--- refusal: the answer of a lawful policy to a request is none, and a flush and a total have words of their own.
+-- refusal: the answer of a lawful policy to a request is none, and a flush, a drop and a total have words of their own.
 --     first-given, given-first    the first row whose condition holds, both ways
 --     says-given, given-says      what a call says, told from its rows, for any lawful policy
 --     says-leaves                 a call that says a refusal leaves everything
@@ -13,7 +13,7 @@ use Rattle.model.specs.Words.{answerSays, refusalSays}
 use Rattle.model.specs.Moves.{Content}
 use Rattle.model.specs.Policy.{Policy}
 use Rattle.model.specs.Refusals.{Row, verdictBy, first, GivenBy, here, later}
-use Rattle.model.specs.Run.{Call, read, write, flush, total, outputOf, World, rowsOf, verdictOf, costsIn, outcomeOf, served, left, leftBy}
+use Rattle.model.specs.Run.{Call, read, write, flush, drop, total, outputOf, World, rowsOf, verdictOf, costsIn, outcomeOf, served, left, leftBy}
 use Rattle.model.specs.declared.Op.{Op}
 use Rattle.model.specs.declared.Op.the-variants.{Read, Write}
 use Rattle.model.specs.declared.Refusal.{Refusal}
@@ -67,6 +67,7 @@ module _ (π : Policy) (ok : Lawful π) (means : (s : π .State) → π .sound s
       served-says (read q out) h e = request-says Read q (read-clear π x q out h) e
       served-says (write q start bytes) h e = request-says Write q (write-clear π x q start bytes h) e
       served-says flush h e = let z : _≡_ {A = ℕ} 0 1 = cc in omega arith
+      served-says (drop q) h e = let z : _≡_ {A = ℕ} 0 1 = cc in omega arith
       served-says total h e = let z : _≡_ {A = ℕ} 0 1 = cc in omega arith
 
   pub says-given : left π x c .said ≡ refusalSays y → GivenBy y (rowsOf π x c)

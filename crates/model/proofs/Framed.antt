@@ -10,12 +10,12 @@ use Rattle.order.specs.Count.{count}
 use Rattle.model.specs.Numbers.{mostServed}
 use Rattle.model.specs.Target.{Costs}
 use Rattle.model.specs.Moves.{Has}
-use Rattle.model.specs.Frames.{Frames, contentIn, Placed, Step, FlushStep}
+use Rattle.model.specs.Frames.{Frames, contentIn, Placed, Step, FlushStep, DropStep}
 use Rattle.model.specs.Policy.{Outcome, Policy, pooled}
 use Rattle.model.specs.declared.Op.{Op}
 use Rattle.model.proofs.Outcomes.{cleanedBy}
 use Rattle.model.proofs.LastWritten.{Lawful}
-use Rattle.model.proofs.Frames.{frame-below, resident-has, step-frame, step-victim, step-right, step-content, flush-content}
+use Rattle.model.proofs.Frames.{frame-below, resident-has, step-frame, step-victim, step-right, step-content, flush-content, drop-content}
 
 -- a request for page q of state s has outcome o
 pub record Stepped (π : Policy) (Good : π .State → Type 0) (frames : π .State → Frames) (op : Op) (s : π .State) (q : ℕ) (o : Outcome (π .State)) : Type 0 where
@@ -28,6 +28,12 @@ pub record FlushStepped (π : Policy) (Good : π .State → Type 0) (frames : π
   pub same : π .numbers (π .flushed s) ≡ π .numbers s
   pub good : Good (π .flushed s)
 
+-- a drop of page q of state s leaves state t
+pub record DropStepped (π : Policy) (Good : π .State → Type 0) (frames : π .State → Frames) (s : π .State) (q : ℕ) (t : π .State) : Type 0 where
+  pub step : DropStep q (frames s) (frames t)
+  pub same : π .numbers t ≡ π .numbers s
+  pub good : Good t
+
 pub record Framed (π : Policy) : Type 1 where
   pub Good : π .State → Type 0
   pub frames : π .State → Frames
@@ -36,6 +42,7 @@ pub record Framed (π : Policy) : Type 1 where
   pub request : (op : Op) (k : Costs) (s : π .State) (q : ℕ) → Good s → q < π .numbers s .N → π .counts s .served < mostServed
       → Stepped π Good frames op s q (π .request op k s q)
   pub flush : (s : π .State) → Good s → π .counts s .served < mostServed → FlushStepped π Good frames s
+  pub drop : (s : π .State) (q : ℕ) → Good s → q < π .numbers s .N → π .counts s .served < mostServed → DropStepped π Good frames s q (π .dropped s q)
 
 module _ (π : Policy) (k : Framed π) where
   -- what a flush writes can be written
@@ -75,6 +82,13 @@ module _ (π : Policy) (k : Framed π) where
                   subst (λ (z : List ℕ). cleanedBy z (π .dirty s) (contentIn (k .frames s)) f ≡ contentIn (k .frames (π .flushed s)) f) (k .pages s)
                   (flush-content (k .frames s) (k .frames (π .flushed s)) (π .dirty s) (t .step) f);
             };
+        drop = λ s q g inside more.
+            let t = k .drop s q g inside more in
+            record {
+              same = t .same;
+              good = t .good;
+              contents = drop-content (π .numbers s) (k .frames s) (k .placed s g) (k .frames (π .dropped s q)) q (t .step);
+            };
       }
 
   -- ---- in pools: a pool that is right holds a good state, and the pool made of a good state is right and holds it
@@ -105,5 +119,13 @@ module _ (π : Policy) (k : Framed π) where
                 step = subst (λ (z : π .State). FlushStep (π .dirty (stateOf p)) (k .frames (stateOf p)) (k .frames z)) (sym e) (t .step);
                 same = ap (λ (z : π .State). π .numbers z) e ∙ t .same;
                 good = made (π .flushed (stateOf p)) (t .good);
+              };
+          drop = λ p q r inside more.
+              let t = k .drop (stateOf p) q (good-of p r) inside more in
+              let e = back (π .dropped (stateOf p) q) (t .good) in
+              record {
+                step = subst (λ (z : π .State). DropStep q (k .frames (stateOf p)) (k .frames z)) (sym e) (t .step);
+                same = ap (λ (z : π .State). π .numbers z) e ∙ t .same;
+                good = made (π .dropped (stateOf p) q) (t .good);
               };
         }

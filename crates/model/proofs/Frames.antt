@@ -1,5 +1,5 @@
 -- Frames whatever the policy: a step keeps them placed, its answer is right about what they hold, and it leaves what `contentAfter` says; a flush leaves what
--- `cleanedBy` says. All by how often a frame stands as empty, as resident and as unsaved.
+-- `cleanedBy` says, and a drop what `without` says. All by how often a frame stands as empty, as resident and as unsaved.
 -- Assumes nothing.
 use mathlib.Core.Path.{_≡_, refl, sym, ap, _∙_, subst}
 use mathlib.Core.Logic.{_≢_, dite}
@@ -14,7 +14,7 @@ use Rattle.order.specs.Count.{bit, count}
 use Rattle.order.proofs.Count.{bit-same, bit-other, count-length}
 use Rattle.model.specs.Numbers.{Numbers, mostServed}
 use Rattle.model.specs.Counts.{Counts, CountsIn, countedBy}
-use Rattle.model.specs.Moves.{Content, vacant, clean, dirty, Has, Loose, put}
+use Rattle.model.specs.Moves.{Content, vacant, clean, dirty, Has, Loose, put, without}
 use Rattle.model.specs.declared.Op.{Op}
 use Rattle.model.specs.declared.Op.the-variants.{Read, Write}
 use Rattle.model.specs.declared.Victim.{Victim}
@@ -22,7 +22,8 @@ use Rattle.model.specs.declared.Victim.the-variants.{None, Clean, Dirty}
 use Rattle.model.specs.declared.Answer.{Answer}
 use Rattle.model.specs.declared.Answer.the-variants.{Refused, Hit, Fault}
 use Rattle.model.specs.Frames.{Frames, pageAt, contentBy, contentIn, Placed, Blank, FaultMark, HitStep, VictimOf, FaultStep, Step, FlushStep}
-use Rattle.model.proofs.Moves.{put-same, put-other, at-or-off}
+use Rattle.model.specs.Frames.{VacatedStep, DropStep, vacates, misses}
+use Rattle.model.proofs.Moves.{put-same, put-other, at-or-off, without-here, without-off}
 use Rattle.model.proofs.Outcomes.{VictimBelow, AnswerRight, contentAfter, cleanedBy, cleanedBy-in, cleanedBy-out}
 
 content-vacant : (r d q : ℕ) → r ≡ 0 → contentBy r d q ≡ vacant
@@ -98,12 +99,19 @@ module _ (n : Numbers) (x : Frames) (p : Placed n x) where
 
   -- ---- a frame that takes another page
 
+  module _ (y : Frames) (q f : ℕ) (page-set : y .page ≡ set (x .page) f q) where
+    set-here : 1 ≤ x .empty f + x .resident f → pageAt y f ≡ q
+    set-here l = page-at f page-set ∙ getD-set-same (x .page) f q 0 (omega (arith, p .paged, frame-below f l))
+
+    set-off : (h : ℕ) → f ≢ h → pageAt y h ≡ pageAt x h
+    set-off h m = page-at h page-set ∙ getD-set-other (x .page) f h q 0 (λ e. m (sym e))
+
   module _ (y : Frames) (op : Op) (q f : ℕ) (v : Victim) (t : FaultStep op q f v x y) where
     page-here : pageAt y f ≡ q
-    page-here = page-at f (t .page-set) ∙ getD-set-same (x .page) f q 0 (omega (arith, p .paged, frame-below f (t .stands)))
+    page-here = set-here y q f (t .page-set) (t .stands)
 
     page-off : (h : ℕ) → f ≢ h → pageAt y h ≡ pageAt x h
-    page-off h m = page-at h (t .page-set) ∙ getD-set-other (x .page) f h q 0 (λ e. m (sym e))
+    page-off = set-off y q f (t .page-set)
 
     was : (h : ℕ) → f ≢ h → 1 ≤ y .resident h → 1 ≤ x .resident h
     was h m l = omega (arith, t .resident-off h m)
@@ -209,6 +217,58 @@ module _ (n : Numbers) (x : Frames) (p : Placed n x) where
     step-blank (Fault v) t s =
         at-or-off (λ h. 1 ≤ y .empty h → pageAt y h ≡ 0) f (λ l. absurd (omega (arith, t .gone)))
         (λ h m l. page-off y op q f v t h m ∙ s h (omega (arith, t .empty-off h m)))
+
+  -- ---- a drop
+
+  module _ (y : Frames) (q f : ℕ) (t : VacatedStep q f x y) where
+    -- a frame that is resident then was, and is another one
+    still : (h : ℕ) → 1 ≤ y .resident h → (f ≢ h) × (1 ≤ x .resident h)
+    still h l =
+        let m : f ≢ h = λ e. let z : y .resident h ≡ 0 = subst (λ (g : ℕ). y .resident g ≡ 0) e (t .gone) in omega arith in
+        (m, omega (arith, t .resident-off h m))
+
+    vacated-off : (h : ℕ) → f ≢ h → pageAt y h ≡ pageAt x h
+    vacated-off = set-off y 0 f (t .page-set)
+
+    vacated-placed : Placed n y
+    vacated-placed =
+        record {
+          once = λ h l. t .stands h ∙ p .once h l;
+          others = λ h l. t .stands h ∙ p .others h l;
+          paged = ap length (t .page-set) ∙ length-set (x .page) f 0 ∙ p .paged;
+          inside = λ h l. let s = still h l in rw (vacated-off h (s .0)) (p .inside h (s .1));
+          apart = λ h j l m e.
+              let s = still h l in
+              let u = still j m in
+              p .apart h j (s .1) (u .1) (sym (vacated-off h (s .0)) ∙ e ∙ vacated-off j (u .0));
+        }
+
+    vacated-content : (g : ℕ) → without q (contentIn x g) ≡ contentIn y g
+    vacated-content =
+        at-or-off (λ g. without q (contentIn x g) ≡ contentIn y g) f
+        (without-here q (contentIn x f) (resident-has (x .resident f) (x .unsaved f) q _ (t .here) (t .has))
+        ∙ sym (content-vacant (y .resident f) (y .unsaved f) _ (t .gone)))
+        (λ g m.
+        without-off q (contentIn x g)
+        (λ a. let r = has-resident (x .resident g) (x .unsaved g) q _ a in m (p .apart f g (t .here) (r .0) (t .has ∙ sym (r .1))))
+        ∙ sym (content-same x y g (t .resident-off g m) (t .mark-off g m) (vacated-off g m)))
+
+  module _ (y : Frames) (q : ℕ) where
+    pub drop-placed : DropStep q x y → Placed n y
+    drop-placed (vacates f t) = vacated-placed y q f t
+    drop-placed (misses t) = placed-same y (t .empty-same) (t .resident-same) (t .page-same)
+
+    pub drop-content : DropStep q x y → (g : ℕ) → without q (contentIn x g) ≡ contentIn y g
+    drop-content (vacates f t) g = vacated-content y q f t g
+    drop-content (misses t) g =
+        without-off q (contentIn x g) (λ a. let r = has-resident (x .resident g) (x .unsaved g) q _ a in t .absent g (r .0) (r .1))
+        ∙ sym (content-same x y g (t .resident-same g) (t .mark-same g) (page-at g (t .page-same)))
+
+    pub drop-blank : DropStep q x y → Blank x → Blank y
+    drop-blank (vacates f t) s =
+        at-or-off (λ h. 1 ≤ y .empty h → pageAt y h ≡ 0) f (λ l. set-here y 0 f (t .page-set) (omega (arith, t .here)))
+        (λ h m l. vacated-off y q f t h m ∙ s h (omega (arith, t .stands h, t .resident-off h m)))
+    drop-blank (misses t) s = λ h l. page-at h (t .page-same) ∙ s h (omega (arith, t .empty-same h))
 
 -- ---- counts
 

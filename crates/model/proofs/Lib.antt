@@ -11,6 +11,7 @@ pub mod Framed
 pub mod Numbered
 pub mod Good
 pub mod Steps
+pub mod Reuse
 pub mod References
 pub mod Drift
 pub mod Adjust

@@ -5,16 +5,18 @@
 use mathlib.Core.Path.{_≡_, refl, sym, ap, _∙_, subst}
 use mathlib.Core.Logic.{_≢_, dite}
 use mathlib.Core.List.{List}
-use Prim.Native.Nat.{ℕ, _+_, _*_, _<_}
-use native.Mathlib.Decide.{ℕ-discrete}
+use Prim.Native.Nat.{ℕ, _+_, _*_, _≤_, _<_}
+use native.Mathlib.Decide.{decLe, ℕ-discrete}
+use native.Mathlib.Omega.{arith}
 use lib.ListN.{length, replicate, length-replicate}
 use borrow.Author.Tests.{eq-eqb, ne-eqb}
 use Rattle.pages.specs.Pages.{splice, pageOf, withPage, InPages}
-use Rattle.pages.proofs.Pages.{page-in, pageOf-length, withPage-length, splice-pageOf-length, pageOf-same, pageOf-other, withPage-overlay}
+use Rattle.pages.proofs.Splice.{splice-all}
+use Rattle.pages.proofs.Pages.{page-in, pageOf-length, pageOf-fits, withPage-length, splice-pageOf-length, pageOf-same, pageOf-other, withPage-overlay}
 use Rattle.model.specs.Numbers.{Numbers}
 use Rattle.model.specs.Bytes.{Memory}
 use Rattle.model.specs.Moves.{Content, vacant, clean, dirty, Has, HasDirty, Loose, without, Buffer, put}
-use Rattle.model.specs.Moves.{Move, load, writeBack, edit, wipe, apply, Allowed, History, laid, told, Keeps}
+use Rattle.model.specs.Moves.{Move, load, writeBack, edit, wipe, apply, Allowed, History, laid, cut, told, Keeps}
 
 -- ---- a function changed at one number
 
@@ -59,12 +61,31 @@ without-dirty p q vacant n h = absurd h
 without-dirty p q (clean r) n h = absurd h
 without-dirty p q (dirty r) n h = let m : p ≢ r = λ e. n (e ∙ h) in rw (ne-eqb p r m) h
 
+pub without-here : (p : ℕ) (v : Content) → Has p v → without p v ≡ vacant
+without-here p vacant h = refl
+without-here p (clean q) h = rw (eq-eqb p q (sym h))
+without-here p (dirty q) h = rw (eq-eqb p q (sym h))
+
+pub without-off : (p : ℕ) (v : Content) → (Has p v → ⊥) → without p v ≡ v
+without-off p vacant h = refl
+without-off p (clean q) h = rw (ne-eqb p q (λ e. h (sym e)))
+without-off p (dirty q) h = rw (ne-eqb p q (λ e. h (sym e)))
+
 module _ (n : Numbers) (x : Buffer) (h : History) (k : Keeps n x h) where
   frame-in : (f : ℕ) → f < n .b → InPages (n .P) f (length (x .memory .frames))
   frame-in f l = page-in (n .P) f (n .b) _ (k .frames) l
 
   stored-in : (p : ℕ) → p < n .N → InPages (n .P) p (length (x .memory .store))
   stored-in p l = page-in (n .P) p (n .N) _ (k .store) l
+
+  -- what each page is has no more bytes than a page: a frame has it so, or else the store
+  history-fits : (p : ℕ) → p < n .N → length (h p) ≤ n .P
+  history-fits p l =
+      dite (decLe (length (h p)) (n .P)) (λ e. e)
+      (λ m.
+      let none : (f : ℕ) → HasDirty p (x .content f) → ⊥ =
+      λ f d. m (rw (k .in-frame p f (dirty-has p (x .content f) d)) at (pageOf-fits (n .P) f (x .memory .frames))) in
+      rw (k .stored p l none) at (pageOf-fits (n .P) p (x .memory .store)))
 
   -- ---- frame f comes to have page p alone, clean or dirty, and its bytes are `bytes`
 
@@ -153,21 +174,28 @@ module _ (n : Numbers) (x : Buffer) (h : History) (k : Keeps n x h) where
             k .stored q ql (none-dirty q f (dirty p) (λ d. m (has-same p q (x .content f) (ok .2) (dirty-has q (x .content f) d))) none) ∙ same q m;
       }
 
-  wipe-keeps : (p : ℕ) → p < n .N → Keeps n (apply (n .P) (wipe p) x) (put p (replicate (n .P) 0) h)
+  -- a page that is cut is zeros
+  pub cut-here : (p : ℕ) → p < n .N → cut (n .P) p h p ≡ replicate (n .P) 0
+  cut-here p l =
+      let zeros : List ℕ = replicate (n .P) 0 in
+      let e : length zeros ≡ n .P = length-replicate (n .P) 0 in
+      rw (eq-eqb p p refl) (splice-all zeros (h p) (omega (arith, e, history-fits p l)))
+
+  wipe-keeps : (p : ℕ) → p < n .N → Keeps n (apply (n .P) (wipe p) x) (cut (n .P) p h)
   wipe-keeps p pl =
       let zeros : List ℕ = replicate (n .P) 0 in
       let l : length zeros ≡ n .P = length-replicate (n .P) 0 in
+      let same : (q : ℕ) → p ≢ q → h q ≡ cut (n .P) p h q = λ q m. rw (ne-eqb p q m) in
       record {
         frames = k .frames;
         store = withPage-length (n .P) p zeros (x .memory .store) l (stored-in p pl) ∙ k .store;
         one = λ q f g a b. k .one q f g (without-has p q (x .content f) a .1) (without-has p q (x .content g) b .1);
-        in-frame = λ q f a. let w = without-has p q (x .content f) a in k .in-frame q f (w .1) ∙ sym (put-other p zeros h q (w .0));
+        in-frame = λ q f a. let w = without-has p q (x .content f) a in k .in-frame q f (w .1) ∙ same q (w .0);
         stored = λ q ql none. dite (ℕ-discrete p q)
-            (λ e. subst (λ (z : ℕ). pageOf (n .P) z (withPage (n .P) p zeros (x .memory .store)) ≡ put p zeros h z) e
-            (pageOf-same (n .P) p zeros (x .memory .store) l (stored-in p pl) ∙ sym (put-same p zeros h)))
+            (λ e. subst (λ (z : ℕ). pageOf (n .P) z (withPage (n .P) p zeros (x .memory .store)) ≡ cut (n .P) p h z) e
+            (pageOf-same (n .P) p zeros (x .memory .store) l (stored-in p pl) ∙ sym (cut-here p pl)))
             (λ m. pageOf-other (n .P) p q zeros (x .memory .store) l (stored-in p pl) (λ d. m (sym d))
-            ∙ k .stored q ql (λ g d. none g (without-dirty p q (x .content g) m d))
-            ∙ sym (put-other p zeros h q m));
+            ∙ k .stored q ql (λ g d. none g (without-dirty p q (x .content g) m d)) ∙ same q m);
       }
 
   pub move-keeps : (m : Move) → Allowed n m x → Keeps n (apply (n .P) m x) (told (n .P) m h)

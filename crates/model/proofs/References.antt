@@ -1,6 +1,6 @@
 -- The numbers that CASA's states carry are those of the last references: a request gives its frame, which has its page, the number of the call, and no other
--- resident frame has that page; a flush gives none.
---     request-tracks, flush-tracks, nothing-tracks    one call
+-- resident frame has that page; a flush and a drop give none.
+--     request-tracks, flush-tracks, drop-tracks, nothing-tracks    one call
 --     tracks-append    one after the other
 -- Assumes nothing.
 use mathlib.Core.Path.{_≡_, refl, sym, ap, _∙_}
@@ -10,16 +10,20 @@ use Prim.Native.Nat.{ℕ, suc, _+_, _≤_, _<_}
 use native.Mathlib.Nat.{add-zero}
 use native.Mathlib.Decide.{ℕ-discrete}
 use native.Mathlib.Omega.{arith}
-use lib.ListN.{length, set, length-append}
+use lib.Dec.{eqb}
+use lib.ListN.{length, getD, set, length-append}
 use lib.Seq.{getD-set-same, getD-set-other}
 use borrow.Author.Tests.{eq-eqb, ne-eqb}
+use Rattle.order.specs.Lists.{removeAt}
+use Rattle.order.specs.Count.{bit, count}
+use Rattle.order.proofs.Count.{bit-same, count-removeAt}
 use Rattle.order.proofs.Merged.{count-merged}
 use Rattle.model.specs.Numbers.{mostServed}
 use Rattle.model.specs.Target.{Costs}
 use Rattle.model.specs.Policy.{Outcome}
 use Rattle.model.specs.References.{Reference, page, none, lastFrom}
-use Rattle.model.specs.State.{State, pageIn, numberIn, resident, framesOf}
-use Rattle.model.specs.Request.{locate, chosen, taken, faultInto, requestAt, request, flushed, states}
+use Rattle.model.specs.State.{State, withLists, counted, pageIn, numberIn, resident, framesOf}
+use Rattle.model.specs.Request.{locate, chosen, taken, faultInto, requestAt, request, flushed, vacated, droppedAt, dropped, states}
 use Rattle.model.specs.declared.Op.{Op}
 use Rattle.model.specs.declared.Op.the-variants.{Read, Write}
 use Rattle.model.specs.declared.Place.{Place}
@@ -28,7 +32,8 @@ use Rattle.model.specs.declared.Choice.{Choice}
 use Rattle.model.specs.declared.Choice.the-variants.{OfEmpty, OfClean, OfDirty}
 use Rattle.model.proofs.Frames.{step-frame, step-here, step-off}
 use Rattle.model.proofs.Framed.{Stepped}
-use Rattle.model.proofs.Steps.{Whole, request-stepped}
+use Rattle.model.proofs.Good.{standing-once}
+use Rattle.model.proofs.Steps.{PlaceRight, locate-right, Whole, request-stepped}
 
 -- the number of each resident frame is what `last` says of its page
 abbrev pub Tracked : (ℕ → ℕ) → State → Type 0
@@ -105,6 +110,25 @@ module _ (s : State) (w : Whole s) where
         served = refl;
         tracked = λ last h f c. h f (omega (arith, count-merged (s .reference) f (s .lists .D) (s .lists .C)));
       }
+
+  pub drop-tracks : (q : ℕ) → Tracks s (dropped s q) (none ∷ [])
+  drop-tracks q = go (locate s q) (locate-right s q)
+    where
+      -- frame f leaves its list, which makes the lists C and D
+      vacated-tracks : (C D : List ℕ) (f : ℕ) → ((h : ℕ) → bit (eqb f h) + (count h C + count h D) ≡ resident (s .lists) h)
+          → Tracks s (counted 0 1 (vacated f (withLists (s .lists .E) C D s))) (none ∷ [])
+      vacated-tracks C D f left =
+          record {
+            served = refl;
+            tracked = λ last h g c.
+                let m : f ≢ g = λ e. let k : 1 ≤ count f C + count f D = rw e c in omega (arith, left f, bit-same f, standing-once s (w .good) f) in
+                getD-set-other (s .reference) f g 0 0 (λ e. m (sym e)) ∙ h g (omega (arith, left g)) ∙ ap last (sym (getD-set-other (s .page) f g 0 0 (λ e. m (sym e))));
+          }
+
+      go : (x : Place) → PlaceRight s q x → Tracks s (droppedAt s x) (none ∷ [])
+      go (InClean i) p = vacated-tracks (removeAt i (s .lists .C)) (s .lists .D) (getD (s .lists .C) i 0) (λ h. omega (arith, count-removeAt h (s .lists .C) i (p .0)))
+      go (InDirty i) p = vacated-tracks (s .lists .C) (removeAt i (s .lists .D)) (getD (s .lists .D) i 0) (λ h. omega (arith, count-removeAt h (s .lists .D) i (p .0)))
+      go Absent p = record { served = refl; tracked = λ last h. h }
 
 pub nothing-tracks : (s : State) → Tracks s s []
 nothing-tracks s = record { served = sym (add-zero (s .counts .served)); tracked = λ last h. h }

@@ -8,9 +8,9 @@ use lib.ListN.{length}
 use borrow.Author.Tests.{leb-true, leb-false, lt-leb, ltb-true}
 use Rattle.pages.proofs.Memory.{sizesMatch-sound, sizesMatch-complete}
 use Rattle.model.specs.Numbers.{Numbers, mostServed}
-use Rattle.model.specs.Refusals.{Row, verdictBy, first, brokenPool, requestRows, flushRows, requestVerdict, flushVerdict, outputFits, stretchFits, Ready}
+use Rattle.model.specs.Refusals.{Row, verdictBy, first, brokenPool, requestRows, flushRows, dropRows, requestVerdict, flushVerdict, dropVerdict, outputFits, stretchFits, Ready}
 use Rattle.model.specs.Policy.{Policy}
-use Rattle.model.specs.Run.{Call, read, write, flush, World, Left, verdictOf, served, leftBy, left}
+use Rattle.model.specs.Run.{Call, read, write, flush, drop, World, Left, verdictOf, served, leftBy, left}
 use Rattle.model.specs.declared.Refusal.{Refusal}
 use Rattle.model.specs.declared.Verdict.{Verdict}
 use Rattle.model.specs.declared.Verdict.the-variants.{Fine, Refused}
@@ -60,6 +60,17 @@ flush-clear sound a served m n e =
     let z = sizesMatch-sound (a .P) (a .b) (a .N) m n (not-false _ (c .1 .0)) in
     (not-false sound (c .0), record { frames = z .0; store = z .1; more = leb-false mostServed served (c .1 .1 .0) })
 
+pub drop-clear : (sound : Bool) (a : Numbers) (served m n page : ℕ) → dropVerdict sound a served m n page ≡ Fine
+    → (sound ≡ true) × Ready a served m n × (page < a .N)
+unfolding dropVerdict
+drop-clear sound a served m n page e =
+    let c = first-clear (brokenPool sound ∷ dropRows a served m n page) e in
+    let z = sizesMatch-sound (a .P) (a .b) (a .N) m n (not-false _ (c .1 .0)) in (
+      not-false sound (c .0),
+      record { frames = z .0; store = z .1; more = leb-false mostServed served (c .1 .1 .1 .0) },
+      leb-false (a .N) page (c .1 .1 .0),
+    )
+
 -- and a call of which no condition holds is served
 pub request-fine : (sound : Bool) (a : Numbers) (served m n page : ℕ) (fit : Bool) → sound ≡ true → Ready a served m n → page < a .N → fit ≡ true
     → first (brokenPool sound ∷ requestRows a served m n page fit) ≡ Fine
@@ -72,6 +83,13 @@ pub flush-fine : (sound : Bool) (a : Numbers) (served m n : ℕ) → sound ≡ t
 flush-fine sound a served m n s l =
     let sizes = sizesMatch-complete (a .P) (a .b) (a .N) m n (l .frames) (l .store) in
     clear-first (brokenPool sound ∷ flushRows a served m n) (ap not s, (ap not sizes, (lt-leb mostServed served (l .more), tt)))
+
+pub drop-fine : (sound : Bool) (a : Numbers) (served m n page : ℕ) → sound ≡ true → Ready a served m n → page < a .N
+    → first (brokenPool sound ∷ dropRows a served m n page) ≡ Fine
+drop-fine sound a served m n page s l inside =
+    let sizes = sizesMatch-complete (a .P) (a .b) (a .N) m n (l .frames) (l .store) in
+    clear-first (brokenPool sound ∷ dropRows a served m n page)
+    (ap not s, (ap not sizes, (lt-leb (a .N) page inside, (lt-leb mostServed served (l .more), tt))))
 
 -- a stretch that fits has bytes and ends within the page
 pub stretch-fits : (P start n : ℕ) → stretchFits P start n ≡ true → (0 < n) × (start + n ≤ P)
@@ -110,3 +128,7 @@ module _ (π : Policy) (x : World (π .State)) where
   pub flush-ready : verdictOf π x flush ≡ Fine → (π .sound (x .state) ≡ true) × ReadyIn
   unfolding flushVerdict
   flush-ready e = flush-clear (π .sound (x .state)) (π .numbers (x .state)) (π .counts (x .state) .served) _ _ e
+
+  pub drop-ready : (q : ℕ) → verdictOf π x (drop q) ≡ Fine → (π .sound (x .state) ≡ true) × ReadyIn × (q < π .numbers (x .state) .N)
+  unfolding dropVerdict
+  drop-ready q e = drop-clear (π .sound (x .state)) (π .numbers (x .state)) (π .counts (x .state) .served) _ _ q e

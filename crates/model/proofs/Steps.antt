@@ -1,39 +1,40 @@
--- CASA's requests and flushes are steps on frames, and keep a state good. A hit moves a frame within C and D, so each frame is resident as often as before and
--- pages stay where they are. On a fault the chosen frame leaves its list and comes back to C or D with a page that no frame had. All by counts. The frame of a
--- request has the largest number and goes to a front, and a merge keeps the order, so numbers still fall.
+-- CASA's requests, flushes and drops are steps on frames, and keep a state good. A hit moves a frame within C and D, so each frame is resident as often as
+-- before and pages stay where they are. On a fault the chosen frame leaves its list and comes back to C or D with a page that no frame had. A drop takes the
+-- frame of its page from C or D to E. All by counts. The frame of a request has the largest number and goes to a front, a merge keeps the order, and a frame
+-- that leaves takes its number away, so numbers still fall.
 --     locate-right, chosen-in    a page is where it is found, and the chosen place is one of its list
---     request-stepped, flush-stepped    what a request and a flush do to frames, and that the state stays good
+--     request-stepped, flush-stepped, drop-stepped    what a request, a flush and a drop do to frames, and that the state stays good
 --     states-framed    so CASA's states are framed
 -- Assumes nothing.
 use mathlib.Core.Path.{_≡_, refl, sym, subst}
 use mathlib.Core.Bool.{Bool, true, false, cond as if-else}
 use mathlib.Core.Logic.{_≢_, dite}
-use mathlib.Core.List.{List, _∷_}
+use mathlib.Core.List.{List, [], _∷_, _++_}
 use Prim.Native.Nat.{ℕ, zero, suc, _+_, _-_, _*_, _≤_, _<_}
 use native.Mathlib.Nat.{min-le-right}
 use native.Mathlib.Decide.{decLt}
 use native.Mathlib.Omega.{arith}
 use lib.ListN.{length, getD, set}
-use lib.Dec.{ltb}
+use lib.Dec.{eqb, ltb}
 use borrow.Author.Tests.{ltb-true, ltb-false}
 use Rattle.order.specs.Lists.{removeAt, moveToFront}
-use Rattle.order.specs.Count.{count}
+use Rattle.order.specs.Count.{bit, count}
 use Rattle.order.specs.Find.{findFrom}
 use Rattle.order.specs.declared.Found.{Found}
 use Rattle.order.specs.declared.Found.the-variants.{At, Nowhere}
 use Rattle.order.proofs.Search.{findFrom-below, findFrom-at, findFrom-none}
 use Rattle.order.specs.Merge.{Ordered}
-use Rattle.order.proofs.Count.{bit-same, bit-other, count-removeAt, count-moveToFront, count-other, count-alone, count-here}
+use Rattle.order.proofs.Count.{bit-same, bit-other, count-append, count-removeAt, count-moveToFront, count-other, count-alone, count-here}
 use Rattle.order.proofs.Merged.{count-merged, ordered-swap, ordered-removeAt}
 use Rattle.model.specs.Numbers.{Numbers, unit, mostServed}
 use Rattle.model.specs.Target.{Costs, up, down, adjust, aboveTarget}
 use Rattle.model.specs.Counts.{countedBy}
-use Rattle.model.specs.Frames.{Blank, HitMark, VictimOf, Step}
+use Rattle.model.specs.Frames.{Blank, HitMark, VictimOf, Step, DropStep, vacates, misses}
 use Rattle.model.specs.Policy.{Outcome}
-use Rattle.model.specs.State.{State, withLists, withTarget, pageIn, resident, standing, framesOf}
+use Rattle.model.specs.State.{State, withLists, withTarget, counted, pageIn, resident, standing, framesOf}
 use Rattle.model.specs.Good.{Numbered, Good}
 use Rattle.model.specs.Request.{placeBy, locate, chosenBy, ChoiceIn, chosen, taken, writesOf}
-use Rattle.model.specs.Request.{hit, faultInto, faulted, requestAt, request, flushed, states}
+use Rattle.model.specs.Request.{hit, faultInto, faulted, requestAt, request, flushed, vacated, droppedAt, dropped, states}
 use Rattle.model.specs.declared.Op.{Op}
 use Rattle.model.specs.declared.Op.the-variants.{Read, Write}
 use Rattle.model.specs.declared.Place.{Place}
@@ -42,10 +43,10 @@ use Rattle.model.specs.declared.Choice.{Choice}
 use Rattle.model.specs.declared.Choice.the-variants.{OfEmpty, OfClean, OfDirty}
 use Rattle.model.specs.declared.Victim.{Victim}
 use Rattle.model.specs.declared.Victim.the-variants.{None, Clean, Dirty}
-use Rattle.model.proofs.Frames.{placed-same, step-placed, step-blank, counts-in, Leaves, leaves-step}
-use Rattle.model.proofs.Framed.{Stepped, FlushStepped, Framed}
+use Rattle.model.proofs.Frames.{placed-same, step-placed, step-blank, drop-placed, drop-blank, counts-in, Leaves, leaves-step}
+use Rattle.model.proofs.Framed.{Stepped, FlushStepped, DropStepped, Framed}
 use Rattle.model.proofs.Good.{standing-below, standing-once, lengths-sum}
-use Rattle.model.proofs.Numbered.{clean-latest, dirty-latest, numbered-latest, numbered-flushed}
+use Rattle.model.proofs.Numbered.{clean-latest, dirty-latest, numbered-latest, numbered-flushed, numbered-vacated, numbered-later}
 
 -- ---- where a page is found
 
@@ -274,6 +275,74 @@ flush-stepped s w more =
       };
     }
 
+-- ---- a drop
+
+module _ (s : State) (w : Whole s) (q : ℕ) (more : s .counts .served < mostServed) where
+  abbrev CasaDropped : State → Type 0
+  CasaDropped t = DropStepped states Whole framesOf s q t
+
+  -- a drop that keeps b to w and the target, counts one write and leaves right reference numbers leaves a good state
+  after-drop : (t : State) → DropStep q (framesOf s) (framesOf t) → s .numbers ≡ t .numbers
+      → Numbered (s .numbers .b) (t .counts .served) (t .reference) (t .lists) → s .target ≡ t .target → countedBy 0 1 (s .counts) ≡ t .counts → CasaDropped t
+  after-drop t d e n τ c =
+      let g = w .good in
+      record {
+        step = d;
+        same = sym e;
+        good = record {
+          good = record {
+            limits = rw e at (g .limits);
+            placed = rw e at (drop-placed (s .numbers) (framesOf s) (g .placed) (framesOf t) q d);
+            numbered = subst (λ (m : Numbers). Numbered (m .b) (t .counts .served) (t .reference) (t .lists)) e n;
+            target-high = rw (e, τ) at (g .target-high);
+            counts = rw (e, c) at (counts-in (s .numbers) (s .counts) (g .counts) more 0 1 (omega arith) (g .limits .b-low));
+          };
+          blank = drop-blank (s .numbers) (framesOf s) (g .placed) (framesOf t) q d (w .blank);
+        };
+      }
+
+  -- frame f leaves its list, which makes the lists C and D
+  vacated-stepped : (C D : List ℕ) (f : ℕ) → ((h : ℕ) → bit (eqb f h) + (count h C + count h D) ≡ resident (s .lists) h) → pageIn s f ≡ q
+      → ((h : ℕ) → f ≢ h → count h D ≡ count h (s .lists .D)) → Ordered (s .reference) (s .counts .served) C D → CasaDropped (counted 0 1 (vacated f (withLists (s .lists .E) C D s)))
+  vacated-stepped C D f left has dirty-off ordered =
+      let here : 1 ≤ resident (s .lists) f = omega (arith, left f, bit-same f) in
+      let out : count f C + count f D ≡ 0 = omega (arith, left f, bit-same f, standing-once s (w .good) f) in
+      let stands : (h : ℕ) → count h (s .lists .E ++ (f ∷ [])) + (count h C + count h D) ≡ standing (s .lists) h =
+      λ h. omega (arith, left h, count-append h (s .lists .E) (f ∷ [])) in
+      after-drop (counted 0 1 (vacated f (withLists (s .lists .E) C D s)))
+      (vacates f
+      (record {
+        here = here;
+        has = has;
+        stands = stands;
+        gone = out;
+        resident-off = λ h m. omega (arith, left h, bit-other f h m);
+        page-set = refl;
+        mark-off = dirty-off;
+      }))
+      refl
+      (numbered-vacated (w .good .numbered) C D f (omega (arith, w .good .numbered .each, standing-below s (w .good) f (omega arith))) out ordered)
+      refl refl
+
+  pub drop-stepped : CasaDropped (dropped s q)
+  drop-stepped = go (locate s q) (locate-right s q)
+    where
+      o : Ordered (s .reference) (s .counts .served) (s .lists .C) (s .lists .D)
+      o = w .good .numbered .ordered
+
+      go : (x : Place) → PlaceRight s q x → CasaDropped (droppedAt s x)
+      go (InClean i) p =
+          vacated-stepped (removeAt i (s .lists .C)) (s .lists .D) (getD (s .lists .C) i 0)
+          (λ h. omega (arith, count-removeAt h (s .lists .C) i (p .0))) (p .1) (λ h n. refl) (ordered-removeAt o i (p .0))
+      go (InDirty i) p =
+          vacated-stepped (s .lists .C) (removeAt i (s .lists .D)) (getD (s .lists .D) i 0)
+          (λ h. omega (arith, count-removeAt h (s .lists .D) i (p .0))) (p .1) (λ h n. count-other h (s .lists .D) i (p .0) n)
+          (ordered-swap (ordered-removeAt (ordered-swap o) i (p .0)))
+      go Absent p =
+          after-drop (counted 0 1 s)
+          (misses (record { absent = p; empty-same = λ h. refl; resident-same = λ h. refl; page-same = refl; mark-same = λ h. refl }))
+          refl (numbered-later (w .good .numbered)) refl refl
+
 unfoldable pub states-framed : Framed states
 states-framed =
     record {
@@ -283,4 +352,5 @@ states-framed =
       pages = λ s. refl;
       request = λ op k s q w inside more. request-stepped s w q inside more op k;
       flush = flush-stepped;
+      drop = λ s q w inside more. drop-stepped s w q more;
     }

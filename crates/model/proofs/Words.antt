@@ -3,8 +3,8 @@ use mathlib.Core.Path.{_≡_, refl, sym, ap, _∙_}
 use mathlib.Core.List.{List, [], _∷_}
 use Prim.Native.Nat.{ℕ}
 use lib.ListN.{getD}
-use Rattle.model.specs.Words.{Said, refused, opened, hit, fault, faultClean, faultDirty, flushed, total}
-use Rattle.model.specs.Words.{numberOf, namedBy, refusalSays, answerSays, openingSays, flushingSays, costingSays}
+use Rattle.model.specs.Words.{Said, refused, opened, hit, fault, faultClean, faultDirty, flushed, dropped, total}
+use Rattle.model.specs.Words.{numberOf, namedBy, refusalSays, answerSays, openingSays, flushingSays, droppingSays, costingSays}
 use Rattle.model.specs.declared.Victim.the-variants.{None, Clean, Dirty}
 use Rattle.model.specs.declared.Refusal.{Refusal}
 use Rattle.model.specs.declared.Refusal.the-variants.{OutOfLimits, BrokenPool, WrongMemory, NoSuchPage, WrongBytes, Spent}
@@ -15,6 +15,8 @@ use Rattle.model.specs.declared.Opening.{Opening}
 use Rattle.model.specs.declared.Opening.the-variants as opening
 use Rattle.model.specs.declared.Flushing.{Flushing}
 use Rattle.model.specs.declared.Flushing.the-variants as flushing
+use Rattle.model.specs.declared.Dropping.{Dropping}
+use Rattle.model.specs.declared.Dropping.the-variants as dropping
 use Rattle.model.specs.declared.Costing.{Costing}
 use Rattle.model.specs.declared.Costing.the-variants as costing
 
@@ -47,6 +49,7 @@ abbrev heard : {A : Type 0} → (Refusal → A) → (ℕ → A) → (ℕ → A) 
 heard refuse flush sum other (refused n ks) = refuse (refusalBy n ks)
 heard refuse flush sum other (flushed n) = flush n
 heard refuse flush sum other (total n) = sum n
+heard refuse flush sum other dropped = other
 heard refuse flush sum other opened = other
 heard refuse flush sum other hit = other
 heard refuse flush sum other fault = other
@@ -69,6 +72,7 @@ answerIn fault = answer.Fault None
 answerIn (faultClean q) = answer.Fault (Clean q)
 answerIn (faultDirty q) = answer.Fault (Dirty q)
 answerIn (flushed n) = answer.Hit
+answerIn dropped = answer.Hit
 answerIn (total n) = answer.Hit
 
 answer-home : (x : Answer) → answerIn (answerSays x) ≡ x
@@ -93,7 +97,7 @@ opening-home opening.Opened = refl
 pub opening-one-to-one : (x y : Opening) → openingSays x ≡ openingSays y → x ≡ y
 opening-one-to-one = one-to-one openingSays openingIn opening-home
 
--- ---- flush and total
+-- ---- flush, drop and total
 
 abbrev flushingIn : Said → Flushing
 flushingIn = heard flushing.Refused flushing.Wrote (λ n. flushing.Wrote 0) (flushing.Wrote 0)
@@ -104,6 +108,16 @@ flushing-home (flushing.Wrote n) = refl
 
 pub flushing-one-to-one : (x y : Flushing) → flushingSays x ≡ flushingSays y → x ≡ y
 flushing-one-to-one = one-to-one flushingSays flushingIn flushing-home
+
+abbrev droppingIn : Said → Dropping
+droppingIn = heard dropping.Refused (λ n. dropping.Dropped) (λ n. dropping.Dropped) dropping.Dropped
+
+dropping-home : (x : Dropping) → droppingIn (droppingSays x) ≡ x
+dropping-home (dropping.Refused x) = ap dropping.Refused (refusal-home x)
+dropping-home dropping.Dropped = refl
+
+pub dropping-one-to-one : (x y : Dropping) → droppingSays x ≡ droppingSays y → x ≡ y
+dropping-one-to-one = one-to-one droppingSays droppingIn dropping-home
 
 abbrev costingIn : Said → Costing
 costingIn = heard costing.Refused (λ n. costing.Total 0) costing.Total (costing.Total 0)

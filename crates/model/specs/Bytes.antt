@@ -1,6 +1,7 @@
--- What an outcome does to the lent bytes. It depends on the frame and the answer alone, so every policy shares it.
+-- What a call does to the lent bytes: a request by its frame and answer alone, a flush by the dirty frames, a drop by its page, so every policy shares it.
 -- Assumes nothing.
 use mathlib.Core.List.{List}
+use lib.ListN.{replicate}
 use Prim.Native.Nat.{ℕ, _+_, _*_}
 use Rattle.pages.specs.Pages.{splice, pageOf, withPage}
 use Rattle.pages.specs.Memory.{writtenBack}
@@ -35,6 +36,10 @@ brought P f q (Fault v) m = fetched P f q (putBack P f v m)
 -- a write replaces only the named stretch in the frame
 abbrev pub overlaid : ℕ → ℕ → ℕ → List ℕ → Memory → Memory
 overlaid P f start bytes m = record { frames = splice (f * P + start) bytes (m .frames); store = m .store }
+
+-- a drop of page q: "Its store bytes become zero"; "Frame memory stays"
+abbrev pub wiped : ℕ → ℕ → Memory → Memory
+wiped P q m = record { frames = m .frames; store = withPage P q (replicate P 0) (m .store) }
 
 -- a flush writes the frames of a list, from last to first; `page` has the page of each frame
 abbrev pub flushedBytes : ℕ → List ℕ → List ℕ → Memory → Memory

@@ -1,9 +1,10 @@
 -- What frames have, whatever lists a policy keeps: how often a frame stands as empty and as resident, how often it is marked unsaved, and its page. And what a
--- request and a flush may do to that.
+-- request, a flush and a drop may do to that.
 --     contentIn    what each frame holds
 --     Placed       every frame stands once; pages are of the store and apart
 --     Step         a request's answer, and what it leaves
 --     FlushStep    what a flush leaves
+--     DropStep     what a drop leaves
 -- Assumes nothing.
 use mathlib.Core.Path.{_≡_}
 use mathlib.Core.Logic.{_≢_}
@@ -104,3 +105,27 @@ pub record FlushStep (fs : List ℕ) (x y : Frames) : Type 0 where
   pub listed : (g : ℕ) → 1 ≤ count g fs → 1 ≤ x .resident g
   pub rest : (g : ℕ) → count g fs ≡ 0 → 1 ≤ x .resident g → x .unsaved g ≡ 0
   pub saved : (g : ℕ) → y .unsaved g ≡ 0
+
+-- ---- a drop of page q, between x and y
+
+-- frame f had it, and is empty now
+pub record VacatedStep (q f : ℕ) (x y : Frames) : Type 0 where
+  pub here : 1 ≤ x .resident f
+  pub has : pageAt x f ≡ q
+  pub stands : (g : ℕ) → y .empty g + y .resident g ≡ x .empty g + x .resident g
+  pub gone : y .resident f ≡ 0
+  pub resident-off : (g : ℕ) → f ≢ g → y .resident g ≡ x .resident g
+  pub page-set : y .page ≡ set (x .page) f 0
+  pub mark-off : (g : ℕ) → f ≢ g → y .unsaved g ≡ x .unsaved g
+
+-- no frame had it
+pub record MissedStep (q : ℕ) (x y : Frames) : Type 0 where
+  pub absent : (g : ℕ) → 1 ≤ x .resident g → pageAt x g ≢ q
+  pub empty-same : (g : ℕ) → y .empty g ≡ x .empty g
+  pub resident-same : (g : ℕ) → y .resident g ≡ x .resident g
+  pub page-same : y .page ≡ x .page
+  pub mark-same : (g : ℕ) → y .unsaved g ≡ x .unsaved g
+
+pub data DropStep (q : ℕ) (x y : Frames) : Type 0 where
+  vacates : (f : ℕ) → VacatedStep q f x y → DropStep q x y
+  misses : MissedStep q x y → DropStep q x y

@@ -12,7 +12,7 @@ use lib.Dec.{eqb}
 use lib.ListN.{length, replicate}
 use Rattle.pages.specs.Pages.{splice, pageOf, withPage}
 use Rattle.model.specs.Numbers.{Numbers}
-use Rattle.model.specs.Bytes.{Memory, fetched, overlaid}
+use Rattle.model.specs.Bytes.{Memory, fetched, overlaid, wiped}
 
 -- a frame holds nothing, a page as it is in the store, or a page that was changed
 pub data Content : Type 0 where
@@ -67,11 +67,7 @@ apply P (writeBack p f) x =
       memory = record { frames = x .memory .frames; store = withPage P p (pageOf P f (x .memory .frames)) (x .memory .store) };
     }
 apply P (edit p f start bytes) x = record { content = put f (dirty p) (x .content); memory = overlaid P f start bytes (x .memory) }
-apply P (wipe p) x =
-    record {
-      content = λ f. without p (x .content f);
-      memory = record { frames = x .memory .frames; store = withPage P p (replicate P 0) (x .memory .store) };
-    }
+apply P (wipe p) x = record { content = λ f. without p (x .content f); memory = wiped P p (x .memory) }
 
 -- no frame has page p
 abbrev pub Nowhere : Buffer → ℕ → Type 0
@@ -92,12 +88,16 @@ History = ℕ → List ℕ
 abbrev pub laid : ℕ → ℕ → List ℕ → History → History
 laid p start bytes h q = if-else (eqb p q) (splice start bytes (h q)) (h q)
 
+-- "counts a drop as a write of P zeros"
+abbrev pub cut : ℕ → ℕ → History → History
+cut P p h = laid p 0 (replicate P 0) h
+
 -- what a move makes of the pages
 abbrev pub told : ℕ → Move → History → History
 told P (load p f) h = h
 told P (writeBack p f) h = h
 told P (edit p f start bytes) h = laid p start bytes h
-told P (wipe p) h = put p (replicate P 0) h
+told P (wipe p) h = cut P p h
 
 -- the bytes have their sizes; a page that a frame has is there as its history says, and in the store too unless the frame's is dirty
 pub record Keeps (n : Numbers) (x : Buffer) (h : History) : Type 0 where

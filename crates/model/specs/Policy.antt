@@ -24,6 +24,8 @@ pub record Policy : Type 1 where
   -- a read or a write of a page, with the costs in force
   pub request : Op → Costs → State → ℕ → Outcome State
   pub flushed : State → State
+  -- a drop of a page
+  pub dropped : State → ℕ → State
   -- the frames that a flush writes, from last to first, and the page of each frame
   pub dirty : State → List ℕ
   pub page : State → List ℕ
@@ -39,6 +41,7 @@ pooled π Pool stateOf poolOf sound =
       request = λ op k p q.
           let o = π .request op k (stateOf p) q in record { state = poolOf (o .state); frame = o .frame; answer = o .answer };
       flushed = λ p. poolOf (π .flushed (stateOf p));
+      dropped = λ p q. poolOf (π .dropped (stateOf p) q);
       dirty = λ p. π .dirty (stateOf p);
       page = λ p. π .page (stateOf p);
     }

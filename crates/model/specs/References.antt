@@ -7,18 +7,19 @@ use mathlib.Core.List.{List, [], _∷_}
 use Prim.Native.Nat.{ℕ, _+_}
 use lib.Dec.{eqb}
 use Rattle.model.specs.Policy.{Policy}
-use Rattle.model.specs.Run.{Call, read, write, flush, total, World, gathered}
+use Rattle.model.specs.Run.{Call, read, write, flush, drop, total, World, gathered}
 
 -- a page, or none
 pub data Reference : Type 0 where
   page : ℕ → Reference
   none : Reference
 
--- a flush is a served call that references no page; a total is no served call
+-- a flush or a drop is a served call that references no page; a total is no served call
 abbrev pub referencing : Call → List Reference
 referencing (read q out) = page q ∷ []
 referencing (write q start bytes) = page q ∷ []
 referencing flush = none ∷ []
+referencing (drop q) = none ∷ []
 referencing total = []
 
 -- of served calls with the numbers from n + 1 on, the number of the last that references page q; `last` where there is none

@@ -70,6 +70,10 @@ requestRows a served m n page fit = wrongMemory a m n ∷ noSuchPage a page ∷ 
 abbrev pub flushRows : Numbers → ℕ → ℕ → ℕ → List Row
 flushRows a served m n = wrongMemory a m n ∷ spent served ∷ []
 
+-- of a drop: "Refusals: order 2, 3, 4, 6"
+abbrev pub dropRows : Numbers → ℕ → ℕ → ℕ → ℕ → List Row
+dropRows a served m n page = wrongMemory a m n ∷ noSuchPage a page ∷ spent served ∷ []
+
 unfoldable pub openVerdict : Numbers → Verdict
 openVerdict n = first (openRows n)
 
@@ -79,7 +83,10 @@ requestVerdict sound a served m n page fit = first (brokenPool sound ∷ request
 unfoldable pub flushVerdict : Bool → Numbers → ℕ → ℕ → ℕ → Verdict
 flushVerdict sound a served m n = first (brokenPool sound ∷ flushRows a served m n)
 
--- ---- what a read, a write or a flush that is served may count on: the lent memory is of the right size, and a call more may be served
+unfoldable pub dropVerdict : Bool → Numbers → ℕ → ℕ → ℕ → ℕ → Verdict
+dropVerdict sound a served m n page = first (brokenPool sound ∷ dropRows a served m n page)
+
+-- ---- what a read, a write, a flush or a drop that is served may count on: the lent memory is of the right size, and a call more may be served
 
 pub record Ready (a : Numbers) (served m n : ℕ) : Type 0 where
   pub frames : m ≡ a .b * a .P

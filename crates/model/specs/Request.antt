@@ -1,12 +1,13 @@
--- One request, Algorithm 1 of the paper with the scope's rounding and empty-list rule, and a flush. Line numbers are the paper's.
+-- One request, Algorithm 1 of the paper with the scope's rounding and empty-list rule, a flush, and a drop. Line numbers are the paper's.
 --     locate     where a page is
 --     chosen     which frame a fault takes: nothing else knows the empty-list rule
 --     taken      that frame out of its list, with its victim
 --     request    the next state, the frame that has the page, and the answer
+--     flushed, dropped    the next state
 --     states     all of it as a policy
 -- Assumes nothing.
 use mathlib.Core.Bool.{Bool, true, cond as if-else}
-use mathlib.Core.List.{List, [], _∷_}
+use mathlib.Core.List.{List, [], _∷_, _++_}
 use Prim.Native.Nat.{ℕ, _-_, _<_}
 use lib.ListN.{length, getD}
 use lib.Dec.{ltb}
@@ -17,7 +18,7 @@ use Rattle.order.specs.declared.Found.{Found}
 use Rattle.order.specs.declared.Found.the-variants.{At, Nowhere}
 use Rattle.model.specs.Target.{Costs, Adjustment, up, down, adjust, aboveTarget}
 use Rattle.model.specs.Policy.{Outcome, Policy}
-use Rattle.model.specs.State.{State, withLists, withPageIn, withTarget, counted, referenced, pageIn}
+use Rattle.model.specs.State.{State, withLists, withPageIn, withTarget, counted, referenced, emptied, pageIn}
 use Rattle.model.specs.declared.Op.{Op}
 use Rattle.model.specs.declared.Op.the-variants.{Read, Write}
 use Rattle.model.specs.declared.Place.{Place}
@@ -154,6 +155,27 @@ request op k s q = requestAt op k s q (locate s q)
 abbrev pub flushed : State → State
 flushed s = counted 0 (length (s .lists .D)) (withLists (s .lists .E) (merged (s .reference) (s .lists .D) (s .lists .C)) [] s)
 
+-- ---- a drop of a page: "if it was resident, its frame leaves C or D and becomes the tail of E, so the next fault uses it. τ stays."
+
+-- frame f, which has left its list, becomes the tail of E
+abbrev pub vacated : ℕ → State → State
+vacated f s = emptied f (withLists (s .lists .E ++ (f ∷ [])) (s .lists .C) (s .lists .D) s)
+
+abbrev pub vacatedBy : Taken → State
+vacatedBy t = vacated (t .frame) (t .state)
+
+abbrev pub vacatedAt : State → Place → State
+vacatedAt s (InClean i) = vacatedBy (taken s (OfClean i))
+vacatedAt s (InDirty i) = vacatedBy (taken s (OfDirty i))
+vacatedAt s Absent = s
+
+-- "counted as one physical write", wherever the page was
+abbrev pub droppedAt : State → Place → State
+droppedAt s x = counted 0 1 (vacatedAt s x)
+
+abbrev pub dropped : State → ℕ → State
+dropped s q = droppedAt s (locate s q)
+
 -- ---- CASA as a policy, on plain states; pools that hold them are tested for soundness
 
 abbrev pub states : Policy
@@ -165,6 +187,7 @@ states =
       counts = λ s. s .counts;
       request = request;
       flushed = flushed;
+      dropped = dropped;
       dirty = λ s. s .lists .D;
       page = λ s. s .page;
     }

@@ -1,20 +1,20 @@
 -- Calls on a pool of any policy and the bytes that are lent to them: when each is refused, what it leaves, and what a run of them does, refused ones among
 -- them.
 --     left        what a call leaves, for every input: the pool's state, what is said, every lent byte
---     history     what each page is after a run, by the served writes
+--     history     what each page is after a run, by the served writes and drops
 --     gathered    what the served calls of a run bring, one after the other
 -- Assumes nothing.
 use mathlib.Core.List.{List, [], _∷_, _++_}
 use Prim.Native.Nat.{ℕ}
 use lib.ListN.{length}
 use Rattle.pages.specs.Pages.{pageOf}
-use Rattle.model.specs.Words.{Said, flushed as saidFlushed, total as saidTotal, answerSays, refusalSays}
+use Rattle.model.specs.Words.{Said, flushed as saidFlushed, dropped as saidDropped, total as saidTotal, answerSays, refusalSays}
 use Rattle.model.specs.Target.{Costs, costsOf}
 use Rattle.model.specs.Counts.{totalCost}
 use Rattle.model.specs.Policy.{Outcome, Policy}
-use Rattle.model.specs.Refusals.{Row, first, brokenPool, requestRows, flushRows, outputFits, stretchFits}
-use Rattle.model.specs.Bytes.{Memory, brought, overlaid, flushedBytes}
-use Rattle.model.specs.Moves.{History, laid}
+use Rattle.model.specs.Refusals.{Row, first, brokenPool, requestRows, flushRows, dropRows, outputFits, stretchFits}
+use Rattle.model.specs.Bytes.{Memory, brought, overlaid, flushedBytes, wiped}
+use Rattle.model.specs.Moves.{History, laid, cut}
 use Rattle.model.specs.declared.Op.{Op}
 use Rattle.model.specs.declared.Op.the-variants.{Read, Write}
 use Rattle.model.specs.declared.Verdict.{Verdict}
@@ -26,6 +26,8 @@ pub data Call : Type 0 where
   -- the page, where the stretch starts, and its bytes
   write : ℕ → ℕ → List ℕ → Call
   flush : Call
+  -- the page
+  drop : ℕ → Call
   total : Call
 
 -- the output that is lent to a call
@@ -33,6 +35,7 @@ abbrev pub outputOf : Call → List ℕ
 outputOf (read q out) = out
 outputOf (write q start bytes) = []
 outputOf flush = []
+outputOf (drop q) = []
 outputOf total = []
 
 -- a pool with the frame memory and the store that are lent to its calls, and nobody else touches
@@ -59,6 +62,7 @@ module _ (π : Policy) where
       requestRows (π .numbers (x .state)) (π .counts (x .state) .served) (length (x .memory .frames)) (length (x .memory .store)) q
       (stretchFits (π .numbers (x .state) .P) start (length bytes))
   furtherRows x flush = flushRows (π .numbers (x .state)) (π .counts (x .state) .served) (length (x .memory .frames)) (length (x .memory .store))
+  furtherRows x (drop q) = dropRows (π .numbers (x .state)) (π .counts (x .state) .served) (length (x .memory .frames)) (length (x .memory .store)) q
   furtherRows x total = []
 
   abbrev pub rowsOf : World (π .State) → Call → List Row
@@ -112,6 +116,8 @@ module _ (π : Policy) where
         memory = flushedBytes (π .numbers (x .state) .P) (π .page (x .state)) (π .dirty (x .state)) (x .memory);
         out = [];
       }
+  served x (drop q) =
+      record { state = π .dropped (x .state) q; said = saidDropped; memory = wiped (π .numbers (x .state) .P) q (x .memory); out = [] }
   served x total =
       record { state = x .state; said = saidTotal (totalCost (π .numbers (x .state)) (π .counts (x .state))); memory = x .memory; out = [] }
 
@@ -132,17 +138,18 @@ module _ (π : Policy) where
   afterAll x [] = x
   afterAll x (c ∷ cs) = afterAll (after x c) cs
 
-  -- a served write is laid over its page, and nothing else counts
-  abbrev pub toldBy : Verdict → Call → History → History
-  toldBy (Refused y) c h = h
-  toldBy Fine (read q out) h = h
-  toldBy Fine (write q start bytes) h = laid q start bytes h
-  toldBy Fine flush h = h
-  toldBy Fine total h = h
+  -- a served write is laid over its page, a served drop cuts it, and nothing else counts
+  abbrev pub toldBy : Verdict → World (π .State) → Call → History → History
+  toldBy (Refused y) x c h = h
+  toldBy Fine x (read q out) h = h
+  toldBy Fine x (write q start bytes) h = laid q start bytes h
+  toldBy Fine x flush h = h
+  toldBy Fine x (drop q) h = cut (π .numbers (x .state) .P) q h
+  toldBy Fine x total h = h
 
   abbrev pub history : World (π .State) → List Call → History → History
   history x [] h = h
-  history x (c ∷ cs) h = history (after x c) cs (toldBy (verdictOf x c) c h)
+  history x (c ∷ cs) h = history (after x c) cs (toldBy (verdictOf x c) x c h)
 
   abbrev pub broughtBy : {A : Type 0} → Verdict → List A → List A
   broughtBy (Refused y) l = []

@@ -9,7 +9,7 @@ use Rattle.model.specs.Numbers.{Numbers}
 use Rattle.model.specs.Counts.{Counts, countedBy}
 use Rattle.model.specs.Frames.{Frames}
 
--- frame numbers, the most recently used first: empty, clean, dirty
+-- frame numbers: empty, of which the last is taken first; clean and dirty, the most recently used first
 pub record Lists : Type 0 where
   pub E : List ℕ
   pub C : List ℕ
@@ -86,6 +86,18 @@ referenced f s =
       lists = s .lists;
       page = s .page;
       reference = set (s .reference) f (s .counts .served);
+      target = s .target;
+      counts = s .counts;
+    }
+
+-- frame f is empty: its page and its number, which have no meaning, are 0
+abbrev pub emptied : ℕ → State → State
+emptied f s =
+    record {
+      numbers = s .numbers;
+      lists = s .lists;
+      page = set (s .page) f 0;
+      reference = set (s .reference) f 0;
       target = s .target;
       counts = s .counts;
     }

@@ -13,6 +13,8 @@ use Rattle.model.specs.declared.Opening.{Opening}
 use Rattle.model.specs.declared.Opening.the-variants as opening
 use Rattle.model.specs.declared.Flushing.{Flushing}
 use Rattle.model.specs.declared.Flushing.the-variants as flushing
+use Rattle.model.specs.declared.Dropping.{Dropping}
+use Rattle.model.specs.declared.Dropping.the-variants as dropping
 use Rattle.model.specs.declared.Costing.{Costing}
 use Rattle.model.specs.declared.Costing.the-variants as costing
 
@@ -28,6 +30,7 @@ pub data Said : Type 0 where
   faultDirty : ℕ → Said
   -- how many pages were written
   flushed : ℕ → Said
+  dropped : Said
   -- nR × r + nW × w
   total : ℕ → Said
 
@@ -77,6 +80,10 @@ openingSays opening.Opened = opened
 abbrev pub flushingSays : Flushing → Said
 flushingSays (flushing.Refused x) = refusalSays x
 flushingSays (flushing.Wrote n) = flushed n
+
+abbrev pub droppingSays : Dropping → Said
+droppingSays (dropping.Refused x) = refusalSays x
+droppingSays dropping.Dropped = dropped
 
 abbrev pub costingSays : Costing → Said
 costingSays (costing.Refused x) = refusalSays x

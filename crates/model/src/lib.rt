@@ -79,6 +79,12 @@ pub enum Flushing {
     Wrote(usize),
 }
 
+// What a drop answers: "there is no further answer".
+pub enum Dropping {
+    Refused(Refusal),
+    Dropped,
+}
+
 // What the total answers: the cost of all physical reads and writes.
 pub enum Costing {
     Refused(Refusal),

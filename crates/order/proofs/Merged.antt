@@ -7,7 +7,7 @@
 --     merged-same    other numbers that are the same
 --     falls-merged, merged-falls    numbers fall down a merge exactly when they fall down both lists and none stands in both
 --     merging-first, merging-second, merging-end    a merge in its places
---     ordered-same, ordered-swap, ordered-once, ordered-removeAt, ordered-latest, ordered-merged, merged-ordered    two lists by falling numbers
+--     ordered-same, ordered-swap, ordered-later, ordered-once, ordered-removeAt, ordered-latest, ordered-merged, merged-ordered    two lists by falling numbers
 -- Assumes nothing.
 use mathlib.Core.Path.{_≡_, refl, sym, ap, _∙_}
 use mathlib.Core.Logic.{_≢_, dite}
@@ -305,6 +305,17 @@ module _ {reference : List ℕ} {top : ℕ} {xs ys : List ℕ} (o : Ordered refe
         apart = λ f g c d e. o .apart g f d c (sym e);
         low = λ f c. o .low f (omega arith);
         high = λ f c. o .high f (omega arith);
+      }
+
+  -- the top may be a later one
+  pub ordered-later : (more : ℕ) → top ≤ more → Ordered reference more xs ys
+  ordered-later more h =
+      record {
+        first-falls = o .first-falls;
+        second-falls = o .second-falls;
+        apart = o .apart;
+        low = o .low;
+        high = λ f c. omega (arith, o .high f c);
       }
 
   -- none twice

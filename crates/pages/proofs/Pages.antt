@@ -7,7 +7,7 @@ use Prim.Native.Nat.{ℕ, _+_, _-_, _*_, _≤_, _<_}
 use native.Mathlib.Nat.{add-sub-cancel-left, suc-mul, mul-le-mul-right}
 use native.Mathlib.Decide.{decLt}
 use native.Mathlib.Omega.{arith}
-use lib.ListN.{length, take}
+use lib.ListN.{length, take, length-take}
 use borrow.Rule.Slice.PartMut.{midOf, putMid}
 use Rattle.pages.specs.Pages.{splice, pageOf, withPage, InPages}
 use Rattle.pages.proofs.Splice.{part-length, splice-length, splice-part-length, splice-here, splice-before, splice-after, splice-within}
@@ -41,6 +41,11 @@ pages-apart P p q h = page-in P p q (q * P) refl h
 pub pageOf-length : (P p : ℕ) (xs : List ℕ) → InPages P p (length xs) → length (pageOf P p xs) ≡ P
 unfolding pageOf
 pageOf-length P p xs h = part-length (p * P) P xs h
+
+-- also where it is not within the bytes
+pub pageOf-fits : (P p : ℕ) (xs : List ℕ) → length (pageOf P p xs) ≤ P
+unfolding pageOf
+pageOf-fits P p xs = simp length-take (omega arith)
 
 pub withPage-length : (P p : ℕ) (ys xs : List ℕ) → length ys ≡ P → InPages P p (length xs) → length (withPage P p ys xs) ≡ length xs
 unfolding withPage

@@ -1,11 +1,11 @@
 -- Laws of `splice`: a stretch of a list is replaced by another of its length.
 -- Assumes nothing.
 use mathlib.Core.Path.{_≡_, sym, ap, _∙_}
-use mathlib.Core.List.{List, [], _∷_, _++_, append-assoc}
+use mathlib.Core.List.{List, [], _∷_, _++_, append-assoc, append-nil}
 use Prim.Native.Nat.{ℕ, _+_, _-_, _≤_, _<_}
 use native.Mathlib.Numerals.{add-one}
 use native.Mathlib.Omega.{arith}
-use lib.ListN.{length, take, drop, set, length-append, length-take, length-drop, take-append-drop}
+use lib.ListN.{length, take, drop, set, length-append, length-take, length-drop, take-append-drop, drop-of-length-le}
 use lib.Seq.{length-take-le, take-append-le, drop-append-le, take-append-seam, drop-append-seam, set-split, take-at, drop-at, drop-drop, take-add}
 use Rattle.pages.specs.Pages.{splice}
 
@@ -24,6 +24,11 @@ splice-part-length a n at ys xs h k =
     splice-length at ys (take n (drop a xs)) (omega arith) ∙ l
 
 -- ---- what was spliced in is read back, and what lies before it and after it is as it was
+
+-- nothing of a list is left that is no longer than what goes over it
+pub splice-all : (ys xs : List ℕ) → length xs ≤ length ys → splice 0 ys xs ≡ ys
+unfolding splice
+splice-all ys xs h = rw (drop-of-length-le xs {i = length ys} h, append-nil ys)
 
 -- from the stretch on
 splice-rest : (at : ℕ) (ys xs : List ℕ) → at ≤ length xs → drop at (splice at ys xs) ≡ ys ++ drop (length ys) (drop at xs)

@@ -1,8 +1,8 @@
-// The bytes of a page buffer: whole pages go between the frame memory and the store, and a write goes to a stretch of a frame.
+// The bytes of a page buffer: whole pages go between the frame memory and the store, a write goes to a stretch of a frame, and a page of the store is wiped.
 // Nothing here knows which page is wanted or which frame is given up: that is the policy's.
 ghost use mathlib.Core.Path.{_≡_};
 ghost use Prim.Native.Nat.{ℕ, _+_, _*_, _≤_, _<_};
-ghost use lib.ListN.{length, getD, take};
+ghost use lib.ListN.{length, getD, take, replicate};
 ghost use Rattle.order.specs.Places.{places};
 ghost use Rattle.pages.specs.Pages.{splice, pageOf, withPage, InPages};
 ghost use Rattle.pages.specs.Memory.{writtenBack, FrameIn, sizesMatch};
@@ -48,6 +48,27 @@ pub fn write_back(store: &mut [u8], page: usize, frame: &[u8], size: usize)
     let at = page * size;
     let end = at + size;
     copy_page(&mut store[at..end], frame);
+}
+
+// Every byte becomes 0.
+fn clear(bytes: &mut [u8])
+    ensures { λ _. ⌜ now (bytes .exit) ≡ replicate (length (now (bytes .entry))) 0 ⌝ }
+{
+    let mut at = 0;
+    while at < bytes.len() {
+        bytes[at] = 0;
+        at += 1;
+    }
+}
+
+// A page of the store becomes zeros, and no other byte of it changes.
+pub fn wipe(store: &mut [u8], page: usize, size: usize)
+    requires { ⌜ InPages size page (length (now store)) ⌝ }
+    ensures { λ _. ⌜ now (store .exit) ≡ withPage size page (replicate size 0) (now (store .entry)) ⌝ }
+{
+    let at = page * size;
+    let end = at + size;
+    clear(&mut store[at..end]);
 }
 
 // A page of the store comes into a frame.

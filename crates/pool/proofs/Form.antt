@@ -5,7 +5,7 @@
 --     find-pad, find-clean, find-dirty    the search for a page over all places is the search over the frames
 --     lengths-frames, empty-in-places, clean-in-places, dirty-in-places    the lists of a sound pool
 --     clean-frame, dirty-frame    what stands in C and D is a frame
---     page-pad, page-at, listed-page    the page of each frame
+--     page-pad, page-set, page-at, listed-page    the page of each frame
 --     reference-pad, reference-at, reference-set    its reference number
 --     writes-fit    the count of physical writes is small
 -- Assumes nothing.
@@ -138,11 +138,13 @@ module _ (p : Pool) (s : Sound p) where
   pub reference-at : (f : ℕ) → getD (p .reference) f 0 ≡ getD (stateOf p .reference) f 0
   reference-at f = ap (λ (l : List ℕ). getD l f 0) reference-pad ∙ pad-getD (stateOf p .reference) f
 
-  -- frame f has the number of the next served call
-  pub reference-set : (f : ℕ) → f < p .frames → set (p .reference) f (p .served + 1) ≡ pad (set (stateOf p .reference) f (p .served + 1))
-  reference-set f h =
-      ap (λ (l : List ℕ). set l f (p .served + 1)) reference-pad
-      ∙ pad-set (stateOf p .reference) f (p .served + 1) (omega (arith, s .good .numbered .each))
+  -- frame f gets another number
+  pub reference-set : (f n : ℕ) → f < p .frames → set (p .reference) f n ≡ pad (set (stateOf p .reference) f n)
+  reference-set f n h = ap (λ (l : List ℕ). set l f n) reference-pad ∙ pad-set (stateOf p .reference) f n (omega (arith, s .good .numbered .each))
+
+  -- and another page
+  pub page-set : (f q : ℕ) → f < p .frames → set (p .page) f q ≡ pad (set (stateOf p .page) f q)
+  page-set f q h = ap (λ (l : List ℕ). set l f q) page-pad ∙ pad-set (stateOf p .page) f q (omega (arith, s .good .placed .paged))
 
   pub page-at : (f : ℕ) → f < p .frames → getD (p .page) f 0 ≡ getD (stateOf p .page) f 0
   page-at f h =

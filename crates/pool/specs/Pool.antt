@@ -3,7 +3,7 @@
 --     stateOf    the state that a pool holds
 --     Sound      the pool holds a good state, and 0 in each place without meaning
 -- Beside these, the fields of a pool are known to its soundness test (specs/Test, proofs/Parts), to `refilled` in proofs/Form, to opening (`fresh`,
--- `zeroPool` in `casa`) and to `calls`, which changes one at a time.
+-- `zeroPool` in `casa`) and to `turns`, which changes one at a time.
 -- Assumes nothing.
 use mathlib.Core.Path.{_≡_}
 use lib.ListN.{length, take}

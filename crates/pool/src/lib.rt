@@ -27,8 +27,8 @@ pub struct Pool {
     // r and w: what a physical read and a physical write cost, each 1 to 1,000.
     pub read_cost: u64,
     pub write_cost: u64,
-    // E, C and D: the empty, the clean and the dirty frames, the most recently used first, and 0 in each place past a list's length. Every frame stands in
-    // exactly one of them.
+    // E, the empty frames, of which the last is taken first; C and D, the clean and the dirty ones, the most recently used first; and 0 in each place past a
+    // list's length. Every frame stands in exactly one of them.
     pub empty: [u8; PLACES],
     pub empty_len: usize,
     pub clean: [u8; PLACES],

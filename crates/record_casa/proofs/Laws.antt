@@ -8,7 +8,7 @@ use native.Mathlib.Omega.{arith}
 use lib.ListN.{getD}
 use lib.Seq.{getD-take, getD-drop}
 use Rattle.pages.specs.Pages.{pageOf}
-use Rattle.model.specs.Words.{answerSays, flushingSays, refusalSays}
+use Rattle.model.specs.Words.{Said, answerSays, flushingSays, droppingSays, refusalSays}
 use Rattle.model.specs.Numbers.{Numbers}
 use Rattle.model.specs.State.{State}
 use Rattle.model.specs.Request.{chosen, taken, request, requestAt, locate}
@@ -23,23 +23,26 @@ use Rattle.model.specs.declared.Answer.{Answer}
 use Rattle.model.specs.declared.Answer.the-variants as answer
 use Rattle.model.specs.declared.Flushing.{Flushing}
 use Rattle.model.specs.declared.Flushing.the-variants as flushing
+use Rattle.model.specs.declared.Dropping.{Dropping}
+use Rattle.model.specs.declared.Dropping.the-variants as dropping
 use Rattle.model.specs.declared.Refusal.{Refusal}
 use Rattle.model.specs.declared.Verdict.{Verdict}
 use Rattle.model.specs.declared.Verdict.the-variants.{Fine, Refused}
 use Rattle.model.proofs.Exactly.{refused-says, says-refused}
 use Rattle.model.proofs.Framed.{framed-lawful, framed-pooled}
 use Rattle.model.proofs.Refusals.{write-clear}
-use Rattle.model.proofs.Words.{answer-one-to-one, flushing-one-to-one}
+use Rattle.model.proofs.Words.{answer-one-to-one, flushing-one-to-one, dropping-one-to-one}
 use Rattle.pool.specs.Pool.{poolOf, stateOf}
 use Rattle.pool.specs.declared.Pool.{Pool}
-use Rattle.casa.specs.Calls.{pools, worldOf, after, servedLeft, flushedLeft}
+use Rattle.casa.specs.Calls.{pools, worldOf, after, servedLeft, flushedLeft, droppedLeft}
 use Rattle.casa.specs.declared.Served.{Served}
 use Rattle.casa.specs.declared.Flushed.{Flushed}
+use Rattle.casa.specs.declared.Dropped.{Dropped}
 use Rattle.casa.proofs.Calls.{sound-is}
 use Rattle.casa.proofs.Lawful.{pools-framed, pools-lawful}
 use Rattle.trace.specs.declared.Record.{Record}
 use Rattle.trace.specs.declared.Record.the-variants as record-of
-use Rattle.recorder.specs.Runs.{Tape, valueOf, answerVerdict, flushingVerdict, recordedBy}
+use Rattle.recorder.specs.Runs.{Tape, valueOf, answerVerdict, flushingVerdict, droppingVerdict, recordedBy}
 use Rattle.record_casa.specs.Calls.{writtenRecord, callVerdict}
 
 -- ---- whether a call was refused
@@ -65,20 +68,33 @@ flushing-refused : (a : Flushing) (y : Refusal) → flushingVerdict a ≡ Refuse
 flushing-refused (flushing.Refused x) y e = ap flushing.Refused (cc)
 flushing-refused (flushing.Wrote n) y e = absurd (let z : _≡_ {A = ℕ} 0 1 = cc in omega arith)
 
+dropping-refused : (a : Dropping) (y : Refusal) → droppingVerdict a ≡ Refused y → a ≡ dropping.Refused y
+dropping-refused (dropping.Refused x) y e = ap dropping.Refused (cc)
+dropping-refused dropping.Dropped y e = absurd (let z : _≡_ {A = ℕ} 0 1 = cc in omega arith)
+
 module _ (p : Pool) (F S : List ℕ) (c : Call) where
-  pub answer-verdict-is : (r : Served) (F′ S′ O′ : List ℕ) → servedLeft r F′ S′ O′ ≡ after p F S c → answerVerdict (r .answer) ≡ callVerdict p F S c
+  -- answers of any type A, of which `verdict` tells whether they refuse
+  verdict-is : {A : Type 0} (says : A → Said) (verdict : A → Verdict) (refuse : Refusal → A) → ((a : A) (y : Refusal) → verdict a ≡ Refused y → a ≡ refuse y)
+      → ((x y : A) → says x ≡ says y → x ≡ y) → ((y : Refusal) → says (refuse y) ≡ refusalSays y) → ((y : Refusal) → verdict (refuse y) ≡ Refused y)
+      → (a : A) → says a ≡ after p F S c .said → verdict a ≡ callVerdict p F S c
   unfolding callVerdict
+  verdict-is says verdict refuse refused one-to-one said told a e =
+      says-verdict (worldOf p F S) c (verdict a) (λ y k. sym e ∙ ap says (refused a y k) ∙ said y)
+      (λ y k. ap verdict (one-to-one a (refuse y) (e ∙ k ∙ sym (said y))) ∙ told y)
+
+  pub answer-verdict-is : (r : Served) (F′ S′ O′ : List ℕ) → servedLeft r F′ S′ O′ ≡ after p F S c → answerVerdict (r .answer) ≡ callVerdict p F S c
   answer-verdict-is r F′ S′ O′ e =
-      let said : answerSays (r .answer) ≡ after p F S c .said = ap (λ (l : Left Pool). l .said) e in
-      says-verdict (worldOf p F S) c (answerVerdict (r .answer)) (λ y k. sym said ∙ ap answerSays (answer-refused (r .answer) y k))
-      (λ y k. ap answerVerdict (answer-one-to-one (r .answer) (answer.Refused y) (said ∙ k)))
+      verdict-is answerSays answerVerdict answer.Refused answer-refused answer-one-to-one (λ y. refl) (λ y. refl) (r .answer) (ap (λ (l : Left Pool). l .said) e)
 
   pub flushing-verdict-is : (r : Flushed) (F′ S′ : List ℕ) → flushedLeft r F′ S′ ≡ after p F S c → flushingVerdict (r .answer) ≡ callVerdict p F S c
-  unfolding callVerdict
   flushing-verdict-is r F′ S′ e =
-      let said : flushingSays (r .answer) ≡ after p F S c .said = ap (λ (l : Left Pool). l .said) e in
-      says-verdict (worldOf p F S) c (flushingVerdict (r .answer)) (λ y k. sym said ∙ ap flushingSays (flushing-refused (r .answer) y k))
-      (λ y k. ap flushingVerdict (flushing-one-to-one (r .answer) (flushing.Refused y) (said ∙ k)))
+      verdict-is flushingSays flushingVerdict flushing.Refused flushing-refused flushing-one-to-one (λ y. refl) (λ y. refl) (r .answer)
+      (ap (λ (l : Left Pool). l .said) e)
+
+  pub dropping-verdict-is : (r : Dropped) (F′ S′ : List ℕ) → droppedLeft r F′ S′ ≡ after p F S c → droppingVerdict (r .answer) ≡ callVerdict p F S c
+  dropping-verdict-is r F′ S′ e =
+      verdict-is droppingSays droppingVerdict dropping.Refused dropping-refused dropping-one-to-one (λ y. refl) (λ y. refl) (r .answer)
+      (ap (λ (l : Left Pool). l .said) e)
 
 -- ---- the record of a served write
 

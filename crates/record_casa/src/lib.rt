@@ -6,11 +6,12 @@ ghost use Prim.Native.Nat.{_*_};
 ghost use lib.ListN.{getD};
 ghost use Rattle.model.specs.Run as run;
 ghost use Rattle.pool.specs.Pool.{numbersIn};
-ghost use Rattle.casa.specs.Calls.{pools, after, worldOf, servedLeft, flushedLeft};
-ghost use Rattle.trace.specs.declared.Record.the-variants.{Read, Write, Flush};
+ghost use Rattle.casa.specs.Calls.{pools, after, worldOf, servedLeft, flushedLeft, droppedLeft};
+ghost use Rattle.trace.specs.declared.Record.the-variants.{Read, Write, Flush, Drop};
 ghost use Rattle.recorder.specs.Calls.{beginAfter, recordedLeft};
 ghost use Rattle.recorder.specs.Runs.{tape, valueOf, recordedBy};
 ghost use Rattle.record_casa.specs.Calls.{writtenRecord, callVerdict};
+use casa::Dropped;
 use casa::Flushed;
 use casa::Served;
 use pool::Pool;
@@ -27,6 +28,12 @@ pub struct Noted {
 // The same of a flush.
 pub struct NotedFlush {
     pub flushed: Flushed,
+    pub recorded: Recorded,
+}
+
+// And of a drop.
+pub struct NotedDrop {
+    pub dropped: Dropped,
     pub recorded: Recorded,
 }
 
@@ -144,4 +151,24 @@ pub fn flush(
     let answer = flushed.answer;
     let recorded = recorder::add_flushed(recorder, answer, buffer);
     NotedFlush { flushed, recorded }
+}
+
+// Cuts a page. Refused as `casa::drop_page` is; its record as `recorder::add` is.
+pub fn drop_page(
+    pool: Pool,
+    page: usize,
+    frames: &[u8],
+    store: &mut [u8],
+    recorder: Recorder,
+    buffer: &mut [u8],
+) -> NotedDrop
+    ensures { λ r. ⌜ droppedLeft (r .dropped) (now (frames .entry)) (now (store .exit))
+        ≡ after pool (now (frames .entry)) (now (store .entry)) (run.drop page) ⌝ }
+    ensures { λ r. ⌜ recordedLeft (r .recorded) (now (buffer .exit))
+        ≡ recordedBy (callVerdict pool (now (frames .entry)) (now (store .entry)) (run.drop page)) (Drop page) (tape recorder (now (buffer .entry))) ⌝ }
+{
+    let dropped = casa::drop_page(pool, page, frames, store);
+    let answer = dropped.answer;
+    let recorded = recorder::add_dropped(recorder, answer, page, buffer);
+    NotedDrop { dropped, recorded }
 }

@@ -12,7 +12,7 @@ use Rattle.trace.specs.Format.{trailerLength, numbersIn, recordedOn, recordOf, 
 use Rattle.trace.specs.Encode.{trailerOf, RecordIn}
 use Rattle.trace.specs.declared.Trailer.{Trailer}
 use Rattle.trace.specs.declared.Record.{Record}
-use Rattle.trace.specs.declared.Record.the-variants.{Read, Write, Flush}
+use Rattle.trace.specs.declared.Record.the-variants.{Read, Write, Flush, Drop}
 use Rattle.trace.specs.declared.Next.the-variants.{Record as Found, End}
 use Rattle.recorder.specs.Calls.{recorderOf, numbersOf, foundFor, roomFor, addRows, closeRows, beginVerdict, addVerdict, closeVerdict}
 use Rattle.recorder.specs.declared.Recorder.{Recorder}
@@ -49,7 +49,7 @@ module _ (start k n : ℕ) where
 pub room-fewer : (start k m n : ℕ) → k ≤ m → roomFor start m n ≡ true → roomFor start k n ≡ true
 room-fewer start k m n h e = let a = roomFor-room start m n e in room-roomFor start k n (omega arith, omega arith)
 
--- ---- the reader would find a read or a write just where its page is one of the N
+-- ---- the reader would find a read, a write or a drop just where its page is one of the N
 
 found-if : (t : Bool) (r : Record) → t ≡ not (isEnd (if-else t (Found r) End))
 found-if true r = refl
@@ -63,17 +63,23 @@ pub found-write : (N q v : ℕ) → ltb q N ≡ not (isEnd (foundFor N (Write q 
 unfolding recordOf
 found-write N q v = found-if (ltb q N) (Write q v)
 
+pub found-drop : (N q : ℕ) → ltb q N ≡ not (isEnd (foundFor N (Drop q)))
+unfolding recordOf
+found-drop N q = found-if (ltb q N) (Drop q)
+
 -- so the recorder takes just the records that a trace over N pages may have
 pub found-in : (N : ℕ) (r : Record) → isEnd (foundFor N r) ≡ false → RecordIn N r
 found-in N (Read q) e = ltb-true q N (found-read N q ∙ ap not e)
 found-in N (Write q v) e = ltb-true q N (found-write N q v ∙ ap not e)
 found-in N Flush e = tt
+found-in N (Drop q) e = ltb-true q N (found-drop N q ∙ ap not e)
 
 pub in-found : (N : ℕ) (r : Record) → RecordIn N r → isEnd (foundFor N r) ≡ false
 unfolding recordOf
 in-found N (Read q) h = rw (lt-ltb q N h)
 in-found N (Write q v) h = rw (lt-ltb q N h)
 in-found N Flush h = refl
+in-found N (Drop q) h = rw (lt-ltb q N h)
 
 -- ---- the numbers in its trailer are the recorder's
 

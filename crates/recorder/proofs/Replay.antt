@@ -16,24 +16,25 @@ use native.Mathlib.Omega.{arith}
 use lib.ListN.{length, take, getD, length-append}
 use borrow.Author.Tests.{le-leb, eq-eqb}
 use Rattle.pages.specs.Pages.{pageOf}
-use Rattle.model.specs.Words.{flushed as saidFlushed, answerSays}
+use Rattle.model.specs.Words.{flushed as saidFlushed, dropped as saidDropped, answerSays}
 use Rattle.model.specs.Numbers.{Numbers}
 use Rattle.model.specs.Target.{costsOf}
 use Rattle.model.specs.Policy.{Policy}
 use Rattle.model.specs.Refusals.{first, brokenPool, requestRows, stretchFits}
 use Rattle.model.specs.Moves.{dirty, Has, History, laid}
-use Rattle.model.specs.Run.{Call, read, write, flush, total, World, Left}
+use Rattle.model.specs.Run.{Call, read, write, flush, drop, total, World, Left}
 use Rattle.model.specs.Run.{verdictOf, costsIn, outcomeOf, writtenIn, served, leftBy, left, after, toldBy, broughtBy, gathered}
 use Rattle.model.specs.declared.Op.{Op}
 use Rattle.model.specs.declared.Op.the-variants.{Read as Reads, Write as Writes}
 use Rattle.model.specs.declared.Verdict.{Verdict}
 use Rattle.model.specs.declared.Verdict.the-variants.{Fine, Refused}
 use Rattle.model.proofs.Moves.{put-same}
-use Rattle.model.proofs.Refusals.{RequestClear, ReadyIn, request-fine, flush-fine, call-cases, read-clear, write-clear, flush-ready, stretch-fits}
+use Rattle.model.proofs.Refusals.{RequestClear, ReadyIn, request-fine, flush-fine, drop-fine, call-cases}
+use Rattle.model.proofs.Refusals.{read-clear, write-clear, flush-ready, drop-ready, stretch-fits}
 use Rattle.model.proofs.LastWritten.{Lawful, Right, call-good, call-numbers, call-right}
 use Rattle.trace.specs.Encode.{RecordsIn}
 use Rattle.trace.specs.declared.Record.{Record}
-use Rattle.trace.specs.declared.Record.the-variants.{Read, Write, Flush}
+use Rattle.trace.specs.declared.Record.the-variants.{Read, Write, Flush, Drop}
 use Rattle.trace.proofs.Round.{recordsIn-append}
 use Rattle.recorder.specs.Runs.{Tape, tapeOf, afterAdd, afterAdds, valueOf, recordsOf, Shown, shownOf, shown, callOf, callsOf}
 use Rattle.recorder.specs.Runs.{recordedBy, afterRecorded, afterRecording}
@@ -56,6 +57,7 @@ module _ (π : Policy) where
   brought-length x (read q out) Fine = refl
   brought-length x (write q start bytes) Fine = refl
   brought-length x flush Fine = refl
+  brought-length x (drop q) Fine = refl
   brought-length x total Fine = refl
 
   shown-length : (cs : List Call) (x : World (π .State)) → length (gathered π (shown π) x cs) ≡ length (gathered π (recordsOf π) x cs)
@@ -69,12 +71,15 @@ module _ (π : Policy) where
   abbrev shownBy : Left (π .State) → Shown π
   shownBy l = record { said = l .said; state = l .state }
 
-  -- what a served request and a flush show: it hangs on the state alone
+  -- what a served request, a flush and a drop show: it hangs on the state alone
   abbrev requested : Op → ℕ → π .State → Shown π
   requested op q s = let o = π .request op (costsOf (π .numbers s)) s q in record { said = answerSays (o .answer); state = o .state }
 
   abbrev flushedIn : π .State → Shown π
   flushedIn s = record { said = saidFlushed (length (π .dirty s)); state = π .flushed s }
+
+  abbrev droppedIn : ℕ → π .State → Shown π
+  droppedIn q s = record { said = saidDropped; state = π .dropped s q }
 
   -- the world that a call leaves
   abbrev worldOf : Left (π .State) → World (π .State)
@@ -87,6 +92,7 @@ module _ (π : Policy) where
   shown-one y out (Read q) = refl
   shown-one y out (Write q v) = refl
   shown-one y out Flush = refl
+  shown-one y out (Drop q) = refl
 
   -- a call shows at most one thing
   brought-most : {A : Type 0} (v : Verdict) (a : A) (zs : List A) (m : ℕ) → length zs ≤ m → length (broughtBy π v (a ∷ []) ++ zs) ≤ suc m
@@ -150,6 +156,12 @@ module _ (π : Policy) (ok : Lawful π) where
         let a = flush-ready π x e in
         flush-fine (π .sound (y .state)) (π .numbers (y .state)) (π .counts (y .state) .served) _ _ (rw same at (a .0)) (ready-again (a .1))
 
+    drop-again : (q : ℕ) (out : List ℕ) → verdictOf π x (drop q) ≡ Fine → verdictOf π y (callOf out (Drop q)) ≡ Fine
+    drop-again q out e =
+        let a = drop-ready π x q e in
+        drop-fine (π .sound (y .state)) (π .numbers (y .state)) (π .counts (y .state) .served) _ _ q
+        (rw same at (a .0)) (ready-again (a .1)) (rw same at (a .2))
+
     -- a call of x and one of y that are both served and show the same: what is left of a run goes on from where they lead
     module _ (cs : List Call) (out : List ℕ) (fit : length out ≡ π .numbers (y .state) .P) (rest : Again cs) where
       goes-on : (c d : Call) → verdictOf π x c ≡ Fine → verdictOf π y d ≡ Fine → shownBy π (served π x c) ≡ shownBy π (served π y d)
@@ -162,7 +174,7 @@ module _ (π : Policy) (ok : Lawful π) where
           let state = ap (λ (s : Shown π). s .state) p ∙ sym (ap (λ (l : Left (π .State)). l .state) next) in
           let fits = fit ∙ sym (ap (λ (n : Numbers). n .P) (call-numbers π ok y (r .good) d)) in
           rw f
-          (ap₂ _∷_ one (rest (worldOf π (served π x c)) (after π y d) state (toldBy π (verdictOf π y d) d h) (call-right π ok y h r d) out fits))
+          (ap₂ _∷_ one (rest (worldOf π (served π x c)) (after π y d) state (toldBy π (verdictOf π y d) y d h) (call-right π ok y h r d) out fits))
 
       served-again : (c : Call) → verdictOf π x c ≡ Fine
           → shown π x c ++ gathered π (shown π) (worldOf π (served π x c)) cs
@@ -172,6 +184,7 @@ module _ (π : Policy) (ok : Lawful π) where
           let v = valueOf π x q start bytes in
           goes-on (write q start bytes) (write q 0 (v ∷ [])) e (write-again q start v out bytes e) (ap (requested π Writes q) same)
       served-again flush e = goes-on flush flush e (flush-again out e) (ap (flushedIn π) same)
+      served-again (drop q) e = goes-on (drop q) (drop q) e (drop-again q out e) (ap (droppedIn π q) same)
       served-again total e = rest x y same h r out fit
 
       call-again : (c : Call) → gathered π (shown π) x (c ∷ cs) ≡ gathered π (shown π) y (callsOf out (gathered π (recordsOf π) x (c ∷ cs)))
@@ -210,6 +223,7 @@ module _ (π : Policy) (ok : Lawful π) where
       go (read q out) Fine e = (read-clear π x q out e .2, tt)
       go (write q start bytes) Fine e = (write-clear π x q start bytes e .2, tt)
       go flush Fine e = (tt, tt)
+      go (drop q) Fine e = (drop-ready π x q e .2, tt)
       go total Fine e = tt
 
   pub records-in : (cs : List Call) (x : World (π .State)) → ok .Good (x .state) → RecordsIn (π .numbers (x .state) .N) (gathered π (recordsOf π) x cs)
@@ -252,6 +266,7 @@ recorded-adds : (π : Policy) (w : World (π .State)) (c : Call) (x : Tape)
 recorded-adds π w (read q out) x = recorded-by π (verdictOf π w (read q out)) (Read q) x
 recorded-adds π w (write q start bytes) x = recorded-by π (verdictOf π w (write q start bytes)) (Write q (valueOf π w q start bytes)) x
 recorded-adds π w flush x = recorded-by π (verdictOf π w flush) Flush x
+recorded-adds π w (drop q) x = recorded-by π (verdictOf π w (drop q)) (Drop q) x
 recorded-adds π w total x = nothing-added π (verdictOf π w total) x
 
 pub recording-adds : (π : Policy) (w : World (π .State)) (cs : List Call) (x : Tape)

@@ -16,7 +16,7 @@ use Rattle.model.specs.declared.Verdict.the-variants.{Fine, Refused}
 use Rattle.trace.specs.Format.{trailerLength, recordedOn, recordOf, isEnd}
 use Rattle.trace.specs.Encode.{recordBytes, trailerOf, trailerBytes}
 use Rattle.trace.specs.declared.Record.{Record}
-use Rattle.trace.specs.declared.Record.the-variants.{Read, Write, Flush}
+use Rattle.trace.specs.declared.Record.the-variants.{Read, Write, Flush, Drop}
 use Rattle.trace.specs.declared.Next.{Next}
 use Rattle.recorder.specs.Words.{RecorderSaid, recorded, closed, refusalSays, recordingSays, closingSays}
 use Rattle.recorder.specs.declared.Recorder.{Recorder}
@@ -62,6 +62,7 @@ abbrev pub foundFor : ℕ → Record → Next
 foundFor N (Read q) = recordOf N 82 0 q
 foundFor N (Write q v) = recordOf N 87 v q
 foundFor N Flush = recordOf N 70 0 0
+foundFor N (Drop q) = recordOf N 68 0 q
 
 -- "8 for a record the reader would refuse": it would have been record k, counted from 1
 abbrev pub refusedRecord : ℕ → ℕ → Record → Row

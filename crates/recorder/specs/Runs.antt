@@ -14,19 +14,21 @@ use Rattle.pages.specs.Pages.{pageOf}
 use Rattle.model.specs.Numbers.{Numbers}
 use Rattle.model.specs.Words.{Said}
 use Rattle.model.specs.Policy.{Policy}
-use Rattle.model.specs.Run.{Call, read, write, flush, total, World, verdictOf, outcomeOf, writtenIn, left, after}
+use Rattle.model.specs.Run.{Call, read, write, flush, drop, total, World, verdictOf, outcomeOf, writtenIn, left, after}
 use Rattle.model.specs.declared.Op.the-variants.{Write as Writes}
 use Rattle.model.specs.declared.Answer.{Answer}
 use Rattle.model.specs.declared.Answer.the-variants as answer
 use Rattle.model.specs.declared.Flushing.{Flushing}
 use Rattle.model.specs.declared.Flushing.the-variants as flushing
+use Rattle.model.specs.declared.Dropping.{Dropping}
+use Rattle.model.specs.declared.Dropping.the-variants as dropping
 use Rattle.model.specs.declared.Verdict.{Verdict}
 use Rattle.model.specs.declared.Verdict.the-variants.{Fine, Refused}
 use Rattle.trace.specs.Format.{numbersIn, checkedOf, notesIn, recordsIn}
 use Rattle.trace.specs.Encode.{trailerOf}
 use Rattle.trace.specs.declared.Checked.the-variants as checked
 use Rattle.trace.specs.declared.Record.{Record}
-use Rattle.trace.specs.declared.Record.the-variants.{Read, Write, Flush}
+use Rattle.trace.specs.declared.Record.the-variants.{Read, Write, Flush, Drop}
 use Rattle.recorder.specs.Words.{refusalSays}
 use Rattle.recorder.specs.Calls.{RecorderLeft, addVerdict, addAfter, closeAfter}
 use Rattle.recorder.specs.declared.Recorder.{Recorder}
@@ -81,6 +83,7 @@ module _ (π : Policy) where
   recordsOf x (read q out) = Read q ∷ []
   recordsOf x (write q start bytes) = Write q (valueOf x q start bytes) ∷ []
   recordsOf x flush = Flush ∷ []
+  recordsOf x (drop q) = Drop q ∷ []
   recordsOf x total = []
 
   -- what is said, "hits, victims", and the state that is left, "lists, target and counts"
@@ -95,6 +98,7 @@ module _ (π : Policy) where
   shown x (read q out) = shownOf x (read q out)
   shown x (write q start bytes) = shownOf x (write q start bytes)
   shown x flush = shownOf x flush
+  shown x (drop q) = shownOf x (drop q)
   shown x total = []
 
 -- ---- a call that is served and recorded at once: a refused call records nothing, and the recorder's answer is the call's refusal; a call that is served stays
@@ -110,6 +114,10 @@ abbrev pub flushingVerdict : Flushing → Verdict
 flushingVerdict (flushing.Refused x) = Refused x
 flushingVerdict (flushing.Wrote n) = Fine
 
+abbrev pub droppingVerdict : Dropping → Verdict
+droppingVerdict (dropping.Refused x) = Refused x
+droppingVerdict dropping.Dropped = Fine
+
 abbrev pub recordedBy : Verdict → Record → Tape → RecorderLeft
 recordedBy (Refused y) r x = record { recorder = x .recorder; said = refusalSays y; buffer = x .buffer }
 recordedBy Fine r x = addAfter (x .recorder) r (x .buffer)
@@ -120,6 +128,7 @@ module _ (π : Policy) where
   afterRecorded w (read q out) x = tapeOf (recordedBy (verdictOf π w (read q out)) (Read q) x)
   afterRecorded w (write q start bytes) x = tapeOf (recordedBy (verdictOf π w (write q start bytes)) (Write q (valueOf π w q start bytes)) x)
   afterRecorded w flush x = tapeOf (recordedBy (verdictOf π w flush) Flush x)
+  afterRecorded w (drop q) x = tapeOf (recordedBy (verdictOf π w (drop q)) (Drop q) x)
   afterRecorded w total x = x
 
   -- a run of calls that are all recorded
@@ -133,6 +142,7 @@ abbrev pub callOf : List ℕ → Record → Call
 callOf out (Read q) = read q out
 callOf out (Write q v) = write q 0 (v ∷ [])
 callOf out Flush = flush
+callOf out (Drop q) = drop q
 
 abbrev pub callsOf : List ℕ → List Record → List Call
 callsOf out [] = []

@@ -14,11 +14,12 @@ ghost use Rattle.pages.specs.Pages.{splice};
 ghost use Rattle.model.specs.Numbers.{numbers};
 ghost use Rattle.trace.specs.Format.{isEnd};
 ghost use Rattle.trace.specs.Encode.{recordBytes, trailerOf, trailerBytes};
-ghost use Rattle.trace.specs.declared.Record.the-variants.{Flush};
+ghost use Rattle.trace.specs.declared.Record.the-variants.{Flush, Drop};
 ghost use Rattle.recorder.specs.Calls.{numbersOf, zeroRecorder, foundFor, roomFor, addVerdict, closeVerdict};
 ghost use Rattle.recorder.specs.Calls.{beginAfter, addAfter, closeAfter, recordedLeft, closedLeft};
-ghost use Rattle.recorder.specs.Runs.{tape, answerVerdict, flushingVerdict, recordedBy};
+ghost use Rattle.recorder.specs.Runs.{tape, answerVerdict, flushingVerdict, droppingVerdict, recordedBy};
 use model::Answer;
+use model::Dropping;
 use model::Flushing;
 use model::Refusal;
 use model::Verdict;
@@ -86,6 +87,7 @@ fn accepted(what: Record, pages: usize) -> bool
         Record::Read(page) => page < pages,
         Record::Write(page, _) => page < pages,
         Record::Flush => true,
+        Record::Drop(page) => page < pages,
     }
 }
 
@@ -162,6 +164,7 @@ fn put_record(buffer: &mut [u8], at: usize, what: Record)
         Record::Read(page) => put_parts(buffer, at, b'R', 0, page),
         Record::Write(page, value) => put_parts(buffer, at, b'W', value, page),
         Record::Flush => put_parts(buffer, at, b'F', 0, 0),
+        Record::Drop(page) => put_parts(buffer, at, b'D', 0, page),
     }
 }
 
@@ -286,6 +289,19 @@ pub fn add_flushed(recorder: Recorder, answer: Flushing, buffer: &mut [u8]) -> R
             answer: Recording::Refused(why),
         },
         Flushing::Wrote(_) => add(recorder, Record::Flush, buffer),
+    }
+}
+
+// And of a drop of a page.
+pub fn add_dropped(recorder: Recorder, answer: Dropping, page: usize, buffer: &mut [u8]) -> Recorded
+    ensures { λ r. ⌜ recordedLeft r (now (buffer .exit)) ≡ recordedBy (droppingVerdict answer) (Drop page) (tape recorder (now (buffer .entry))) ⌝ }
+{
+    match answer {
+        Dropping::Refused(why) => Recorded {
+            recorder,
+            answer: Recording::Refused(why),
+        },
+        Dropping::Dropped => add(recorder, Record::Drop(page), buffer),
     }
 }
 

@@ -2,6 +2,7 @@
 ghost use Prim.Native.Nat.{_≤_};
 ghost use lib.ListN.{length};
 use model::Answer;
+use model::Dropping;
 use model::Flushing;
 use pool::Pool;
 use tell::end;
@@ -150,6 +151,24 @@ fn flush_set(set: usize) {
     end();
 }
 
+fn drop_as(set: usize, frames: &[u8], store: &mut [u8]) -> Dropping
+    requires { ⌜ 32 ≤ length (now frames) ⌝ }
+{
+    let f = frames_of(set);
+    let dropped = casa::drop_page(pool_of(set), page_of(set), &frames[0..f], store);
+    dropped.answer
+}
+
+fn drop_set(set: usize) {
+    let frames = [1u8; 32];
+    let mut store = [2u8; 128];
+    let answer = drop_as(set, &frames, &mut store);
+    tell_set(b"drop set", set);
+    tell::drop(answer);
+    tell_sums(&frames, &store);
+    end();
+}
+
 fn total_set(set: usize) {
     word(b"total");
     tell::total(casa::total(pool_of(set)));
@@ -162,6 +181,7 @@ fn sets() {
         read_set(set);
         write_set(set);
         flush_set(set);
+        drop_set(set);
         total_set(set);
         set += 1;
     }

@@ -7,6 +7,7 @@ ghost use Rattle.trace.specs.Format.{numbersIn, recordedOn};
 use casa::Opened;
 use casa::Served;
 use libc::STDIN_FILENO;
+use model::Dropping;
 use model::Flushing;
 use model::Opening;
 use model::Refusal;
@@ -90,6 +91,14 @@ fn tell_flush(answer: Flushing) {
     }
 }
 
+// Result, victim and pages written of a drop. Never says 'refused', for the same reasons.
+fn tell_drop(answer: Dropping) {
+    match answer {
+        Dropping::Refused(why) => tell::also_refused(why),
+        Dropping::Dropped => word(b" - - 1"),
+    }
+}
+
 // ---- one record
 
 // Byte 0 of a page. Never without one: a page has at least 16 bytes.
@@ -137,6 +146,20 @@ fn flush(k: usize, pool: Pool, frames: &[u8], store: &mut [u8]) -> Pool {
     next
 }
 
+// Byte 0 of a page that was cut is 0.
+fn drop(k: usize, page: usize, pool: Pool, frames: &[u8], store: &mut [u8]) -> Pool {
+    let dropped = casa::drop_page(pool, page, frames, store);
+    let answer = dropped.answer;
+    let next = dropped.pool;
+    tell::digits(k as u64);
+    word(b" D");
+    number(page as u64);
+    tell_drop(answer);
+    tell_pool(next);
+    word(b" 0\n");
+    next
+}
+
 // Never: the loop ends with the last record, and `trace::check` has read them all.
 fn missing(k: usize, pool: Pool) -> Pool {
     refused(Refusal::BadRecord(k));
@@ -157,6 +180,7 @@ fn serve(
             Record::Read(page) => read(k, page, pool, frames, store, out),
             Record::Write(page, value) => write(k, page, value, pool, frames, store),
             Record::Flush => flush(k, pool, frames, store),
+            Record::Drop(page) => drop(k, page, pool, frames, store),
         },
     }
 }

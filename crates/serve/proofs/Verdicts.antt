@@ -1,4 +1,4 @@
--- Which row refuses: each row of a table, where its condition holds and those before it do not; a flush as a request; and whether a stretch fits.
+-- Which row refuses: each row of a table, where its condition holds and those before it do not; a flush and a drop as requests; and whether a stretch fits.
 -- Assumes nothing.
 use mathlib.Core.Path.{_≡_, refl}
 use mathlib.Core.Bool.{Bool, true, false}
@@ -10,7 +10,7 @@ use lib.Dec.{leb}
 use borrow.Author.Tests.{lt-ltb, le-ltb, le-leb, lt-leb}
 use Rattle.pages.specs.Memory.{sizesMatch}
 use Rattle.model.specs.Numbers.{Numbers, mostServed}
-use Rattle.model.specs.Refusals.{requestVerdict, flushVerdict, stretchFits}
+use Rattle.model.specs.Refusals.{requestVerdict, flushVerdict, dropVerdict, stretchFits}
 use Rattle.model.specs.declared.Refusal.the-variants.{BrokenPool, WrongMemory, NoSuchPage, WrongBytes, Spent}
 use Rattle.model.specs.declared.Verdict.the-variants.{Fine, Refused}
 
@@ -46,7 +46,7 @@ module _ (sound : Bool) (k : Numbers) (served m n : ℕ) where
       unfolding requestVerdict
       request-fine c d e = rw (a, b, lt-leb _ _ c, d, lt-leb _ _ e)
 
--- ---- a flush
+-- ---- a flush and a drop
 
 -- page 0 is in every store that has a page, and no bytes are wrong, so these two rows never refuse
 pub flush-as-request : (sound : Bool) (k : Numbers) (served m n : ℕ) → (sound ≡ true → 0 < k .N)
@@ -54,6 +54,11 @@ pub flush-as-request : (sound : Bool) (k : Numbers) (served m n : ℕ) → (soun
 unfolding requestVerdict flushVerdict
 flush-as-request false k served m n h = refl
 flush-as-request true k served m n h = rw (lt-leb (k .N) 0 (h refl))
+
+-- a drop has no bytes of the caller's that could be wrong
+pub drop-as-request : (sound : Bool) (k : Numbers) (served m n page : ℕ) → requestVerdict sound k served m n page true ≡ dropVerdict sound k served m n page
+unfolding requestVerdict dropVerdict
+drop-as-request sound k served m n page = refl
 
 -- ---- a stretch of n bytes from `start` on
 

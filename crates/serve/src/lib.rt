@@ -17,7 +17,7 @@ use model::Victim;
 
 // ---- refusals
 
-// Of a read or a write: whether the pool is sound, its numbers and served calls, the `m` bytes of frame memory and `n` of store that are lent, the page,
+// Of a read or a write, and by its rows of a flush and a drop: whether the pool is sound, its numbers and served calls, the `m` bytes of frame memory and `n` of store that are lent, the page,
 // and whether the caller's own bytes fit. The costs refuse nothing.
 pub fn request_verdict(
     sound: bool,

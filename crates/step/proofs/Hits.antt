@@ -32,7 +32,7 @@ module _ (p : Pool) (s : Sound p) where
       ≡ stepOf (hit g (withTarget τ (withLists (stateOf p .lists .E) C D (stateOf p))))
   hit-is {f = f} l {g = g} hc hd ht hf =
       let numbers : set (p .reference) f (p .served + 1) ≡ pad (set (stateOf p .reference) g (p .served + 1)) =
-      reference-set p s f l ∙ ap (λ (h : ℕ). pad (set (stateOf p .reference) h (p .served + 1))) hf in
+      reference-set p s f (p .served + 1) l ∙ ap (λ (h : ℕ). pad (set (stateOf p .reference) h (p .served + 1))) hf in
       λ i. hitWith (hc .is i) (sym (hc .len) i) (hd .is i) (sym (hd .len) i) (page-pad p s i) (numbers i) (ht i)
       (sym (add-zero (p .reads .0)) i) (sym (add-zero (p .writes .0)) i) (hf i) (s .whole i)
 

@@ -1,4 +1,5 @@
--- The laws of `step`: Hits, Faults and Requests say what each part leaves. Assumes nothing.
+-- The laws of `step`: Hits, Faults, Drops and Requests say what each part leaves. Assumes nothing.
 pub mod Hits
 pub mod Faults
+pub mod Drops
 pub mod Requests

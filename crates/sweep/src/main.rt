@@ -1,6 +1,7 @@
 // Makes the public calls in large numbers and prints digests of all that they leave: every short sequence on a small pool, random runs at every number of
 // frames, and calls on pools in which one thing was changed. tests/sweep.py says what must be printed.
 ghost use Prim.Native.Nat.{_≤_};
+use calls::DROP;
 use calls::FAULT;
 use calls::FLUSH;
 use calls::HIT;
@@ -9,12 +10,11 @@ use calls::Left;
 use calls::TOTAL;
 use calls::chance;
 use calls::chance::World;
-use calls::turns;
-use calls::turns::Plan;
-use calls::turns::Turn;
 use pool::Pool;
 use tell::number;
 use tell::word;
+use turns::Plan;
+use turns::Turn;
 
 // ---- what came out
 
@@ -43,10 +43,7 @@ fn one_more(counts: [u64; KINDS], kind: usize) -> [u64; KINDS] {
 // The answer of a call, its pool and every byte of memory are absorbed.
 fn absorb_left(tally: Tally, left: Left, frames: &[u8], store: &[u8], out: &[u8]) -> Tally {
     let said = left.said;
-    let pool = left.pool;
-    let answer = [said.kind as u64, said.value];
-    let with_answer = digest::absorb_numbers(tally.digest, 8, &answer);
-    let with_pool = digest::absorb_pool(with_answer, pool);
+    let with_pool = calls::absorb(tally.digest, left);
     let with_frames = digest::absorb_bytes(with_pool, frames);
     let with_store = digest::absorb_bytes(with_frames, store);
     let digest = digest::absorb_bytes(with_store, out);
@@ -62,7 +59,7 @@ fn tell_digest(digest: u32) {
 
 // How often each kind of answer came, from one kind to before another.
 fn tell_kinds(what: &[u8], counts: &[u64; KINDS], from: usize, end: usize)
-    requires { ⌜ end ≤ 17 ⌝ }
+    requires { ⌜ end ≤ 18 ⌝ }
 {
     word(what);
     let mut kind = from;
@@ -78,7 +75,8 @@ fn tell_counts(tally: Tally) {
     tell_kinds(b" hits", &counts, HIT, FAULT);
     tell_kinds(b" faults", &counts, FAULT, FLUSH);
     tell_kinds(b" flushes", &counts, FLUSH, TOTAL);
-    tell_kinds(b" totals", &counts, TOTAL, KINDS);
+    tell_kinds(b" totals", &counts, TOTAL, DROP);
+    tell_kinds(b" drops", &counts, DROP, KINDS);
     tell_kinds(b" refused", &counts, 2, 7);
     tell::end();
 }
@@ -157,7 +155,7 @@ fn take_all(
 
 // ---- every short sequence on a small pool: 2 frames, 3 pages of 16 bytes
 
-fn sequence(tally: Tally, n: usize, length: usize, r: u64, w: u64) -> Tally {
+fn sequence(tally: Tally, plan: Plan, length: usize, r: u64, w: u64) -> Tally {
     let mut frames = [0xEEu8; 32];
     let mut store = [0u8; 48];
     let mut out = [0u8; 16];
@@ -170,36 +168,48 @@ fn sequence(tally: Tally, n: usize, length: usize, r: u64, w: u64) -> Tally {
         store_bytes: 48,
     };
     let run = fresh_run(world, tally, r, w);
-    let plan = Plan::Letters(n, length);
     take_all(run, plan, world, length, &mut frames, &mut store, &mut out)
 }
 
-// Every sequence of one length, in order: there are `power` * 7.
-fn sequences(length: usize, power: usize, r: u64, w: u64) -> Tally
-    requires { ⌜ power ≤ 16807 ⌝ }
-{
+// Every sequence of one length over so many letters, in order.
+fn sequences(letters: usize, length: usize, count: usize, r: u64, w: u64) -> Tally {
     let mut tally = fresh_tally();
     let mut n = 0;
-    while n < power * 7 {
-        let after = sequence(tally, n, length, r, w);
+    while n < count {
+        let after = sequence(tally, Plan::Letters(letters, n, length), length, r, w);
         tally = after;
         n += 1;
     }
     tally
 }
 
-// Lengths 1 to 6. A sequence of one letter more has seven times the power.
+fn tell_sequences(name: &[u8], letters: usize, length: usize, count: usize, r: u64, w: u64) {
+    let tally = sequences(letters, length, count, r, w);
+    word(name);
+    number(r);
+    number(w);
+    number(length as u64);
+    tell_digest(tally.digest);
+}
+
+// Reads, writes and flushes, seven letters: lengths 1 to 6. With one letter more there are seven times as many sequences.
 fn small(r: u64, w: u64) {
-    let mut power = 1;
+    let mut count = 7;
     let mut length = 1;
-    while power <= 16807 {
-        let tally = sequences(length, power, r, w);
-        word(b"small");
-        number(r);
-        number(w);
-        number(length as u64);
-        tell_digest(tally.digest);
-        power *= 7;
+    while count <= 117649 {
+        tell_sequences(b"small", 7, length, count, r, w);
+        count *= 7;
+        length += 1;
+    }
+}
+
+// Drops among them, ten letters: lengths 1 to 5.
+fn drops(r: u64, w: u64) {
+    let mut count = 10;
+    let mut length = 1;
+    while count <= 100000 {
+        tell_sequences(b"drops", 10, length, count, r, w);
+        count *= 10;
         length += 1;
     }
 }
@@ -262,6 +272,7 @@ fn main() {
     small(0, 0);
     small(1, 1);
     small(3, 2);
+    drops(3, 2);
     runs(b"random", Plan::Random, 2000);
-    runs(b"broken", Plan::Broken, 1250);
+    runs(b"broken", Plan::Broken, 1500);
 }

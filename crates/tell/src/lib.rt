@@ -2,6 +2,7 @@
 use libc::STDOUT_FILENO;
 use model::Answer;
 use model::Costing;
+use model::Dropping;
 use model::Flushing;
 use model::Refusal;
 use model::Victim;
@@ -91,5 +92,13 @@ pub fn flush(answer: Flushing) {
             word(b" wrote");
             number(pages as u64);
         }
+    }
+}
+
+// What a drop answers, within a line.
+pub fn drop(answer: Dropping) {
+    match answer {
+        Dropping::Refused(why) => also_refused(why),
+        Dropping::Dropped => word(b" dropped"),
     }
 }

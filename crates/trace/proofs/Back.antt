@@ -5,7 +5,6 @@
 use mathlib.Core.Path.{_≡_, refl, sym, ap, _∙_}
 use mathlib.Core.Bool.{Bool, true, false, _&&_, cond as if-else}
 use mathlib.Core.List.{List, _∷_, _++_}
-use mathlib.Core.Logic.{_⊎_, inl, inr, ⊎-elim}
 use Prim.Native.Nat.{ℕ, zero, suc, _+_, _*_, _-_, _^_, _≤_, _<_}
 use native.Mathlib.Nat.{add-zero, mul-suc, add-comm}
 use native.Mathlib.Numerals.{add-one}
@@ -20,7 +19,7 @@ use Rattle.model.proofs.Refusals.{and-both}
 use Rattle.trace.specs.declared.Trailer.{Trailer}
 use Rattle.trace.specs.declared.Checked.the-variants.{Fine}
 use Rattle.trace.specs.declared.Record.{Record}
-use Rattle.trace.specs.declared.Record.the-variants.{Read, Write, Flush}
+use Rattle.trace.specs.declared.Record.the-variants.{Read, Write, Flush, Drop}
 use Rattle.trace.specs.declared.Next.{Next}
 use Rattle.trace.specs.declared.Next.the-variants.{Record as Found, End}
 use Rattle.trace.specs.Format.{numberAt, trailerLength, trailerAt, numbersIn, headerOf, recordOf, recordIn}
@@ -67,9 +66,9 @@ not-found : (r : Record) → _≡_ {A = Next} End (Found r) → ⊥
 not-found r e = let z : _≡_ {A = ℕ} 0 1 = cc in omega arith
 
 -- a record was found by a test's answer, or by what follows the test
-found-by : (b : Bool) (x y : Next) (r : Record) → if-else b x y ≡ Found r → ((b ≡ true) × (x ≡ Found r)) ⊎ (y ≡ Found r)
-found-by true x y r e = inl (refl, e)
-found-by false x y r e = inr e
+found-by : {W : Type 0} (b : Bool) {x y : Next} {r : Record} → ((b ≡ true) × (x ≡ Found r) → W) → (y ≡ Found r → W) → if-else b x y ≡ Found r → W
+found-by true here later e = here (refl, e)
+found-by false here later e = later e
 
 found-if : (b : Bool) (x r : Record) → if-else b (Found x) End ≡ Found r → (b ≡ true) × (x ≡ r)
 found-if true x r e = (refl, cc)
@@ -80,8 +79,8 @@ recordOf-bytes : (N letter value page : ℕ) (r : Record) → recordOf N letter 
     → (recordBytes r ≡ letter ∷ value ∷ bytesOf 2 page) × RecordIn N r
 unfolding recordOf
 recordOf-bytes N letter value page r e =
-    ⊎-elim read (λ d. ⊎-elim write (λ f. ⊎-elim flush (λ g. absurd (not-found r g)) (found-by (eqb letter 70) _ _ r f)) (found-by (eqb letter 87) _ _ r d))
-    (found-by (eqb letter 82) _ _ r e)
+    found-by (eqb letter 82) read
+    (found-by (eqb letter 87) write (found-by (eqb letter 70) flush (found-by (eqb letter 68) dropped (λ d. absurd (not-found r d))))) e
   where
     Was : Type 0
     Was = (recordBytes r ≡ letter ∷ value ∷ bytesOf 2 page) × RecordIn N r
@@ -102,6 +101,12 @@ recordOf-bytes N letter value page r e =
         let f = found-if _ Flush r (h .1) in
         let c = and-both (eqb value 0) (eqb page 0) (f .0) in
         rw (← f .1, eqb-true letter 70 (h .0), eqb-true value 0 (c .0), eqb-true page 0 (c .1)) (refl, tt)
+
+    dropped : (eqb letter 68 ≡ true) × (if-else (eqb value 0 && ltb page N) (Found (Drop page)) End ≡ Found r) → Was
+    dropped h =
+        let f = found-if _ (Drop page) r (h .1) in
+        let c = and-both (eqb value 0) (ltb page N) (f .0) in
+        rw (← f .1, eqb-true letter 68 (h .0), eqb-true value 0 (c .0)) (refl, ltb-true page N (c .1))
 
 -- the four bytes in which a record was found are those that are written for it
 recordIn-bytes : (s : List ℕ) (at N : ℕ) (r : Record) → recordIn s at N ≡ Found r → at + 4 ≤ length s → AllBelow 256 s

@@ -17,7 +17,7 @@ use Rattle.model.specs.Numbers.{Numbers, inLimits}
 use Rattle.trace.specs.declared.Trailer.{Trailer}
 use Rattle.trace.specs.declared.Checked.the-variants.{Fine}
 use Rattle.trace.specs.declared.Record.{Record}
-use Rattle.trace.specs.declared.Record.the-variants.{Read, Write, Flush}
+use Rattle.trace.specs.declared.Record.the-variants.{Read, Write, Flush, Drop}
 use Rattle.trace.specs.declared.Next.the-variants.{Record as Found}
 use Rattle.trace.specs.Format.{numberAt, trailerLength, trailerAt, recordedOn, pointsBack, judged, headerOf}
 use Rattle.trace.specs.Format.{recordOf, recordIn, recordAt, isEnd, checkedOf, notesIn, recordsFrom, recordsIn}
@@ -33,6 +33,7 @@ unfolding bytesOf
 recordBytes-length (Read q) = refl
 recordBytes-length (Write q v) = refl
 recordBytes-length Flush = refl
+recordBytes-length (Drop q) = refl
 
 pub recordsBytes-length : (rs : List Record) → length (recordsBytes rs) ≡ 4 * length rs
 recordsBytes-length [] = refl
@@ -136,6 +137,7 @@ unfolding recordIn recordOf numberAt bytesOf
 record-decoded N (Read q) rest l h = rw (numberOf-bytesOf 2 q (omega arith), lt-ltb q N h)
 record-decoded N (Write q v) rest l h = rw (numberOf-bytesOf 2 q (omega arith), lt-ltb q N h)
 record-decoded N Flush rest l h = rw (numberOf-bytesOf 2 0 (omega arith))
+record-decoded N (Drop q) rest l h = rw (numberOf-bytesOf 2 q (omega arith), lt-ltb q N h)
 
 drop-record : (r : Record) (rs : List Record) (rest : List ℕ) (k : ℕ)
     → drop (4 * suc k) (recordsBytes (r ∷ rs) ++ rest) ≡ drop (4 * k) (recordsBytes rs ++ rest)

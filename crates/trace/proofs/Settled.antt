@@ -10,7 +10,7 @@ use denote.Ref.{RefT, now}
 use Rattle.model.proofs.Words.{refusal-one-to-one}
 use Rattle.trace.specs.declared.Checked.{Checked}
 use Rattle.trace.specs.declared.Checked.the-variants.{Refused, Fine}
-use Rattle.trace.specs.declared.Record.the-variants.{Read, Write, Flush}
+use Rattle.trace.specs.declared.Record.the-variants.{Read, Write, Flush, Drop}
 use Rattle.trace.specs.declared.Next.{Next}
 use Rattle.trace.specs.declared.Next.the-variants.{Record as Found, End}
 use Rattle.trace.specs.declared.reader.Reader.{Reader}
@@ -51,7 +51,10 @@ check-settled s x y a b = checked-one-to-one x y (a ∙ sym b)
 
 abbrev nextBy : ℕ → ℕ → ℕ → Next
 nextBy letter value page =
-    if-else (eqb letter 82) (Found (Read page)) (if-else (eqb letter 87) (Found (Write page value)) (if-else (eqb letter 70) (Found Flush) End))
+    if-else (eqb letter 82) (Found (Read page))
+    (if-else (eqb letter 87) (Found (Write page value))
+    (if-else (eqb letter 70) (Found Flush)
+    (if-else (eqb letter 68) (Found (Drop page)) End)))
 
 abbrev nextIn : List ℕ → Next
 nextIn said = nextBy (getD said 0 0) (getD said 1 0) (getD said 2 0)
@@ -60,6 +63,7 @@ next-home : (x : Next) → nextIn (nextSays x) ≡ x
 next-home (Found (Read q)) = refl
 next-home (Found (Write q v)) = refl
 next-home (Found Flush) = refl
+next-home (Found (Drop q)) = refl
 next-home End = refl
 
 pub next-one-to-one : (x y : Next) → nextSays x ≡ nextSays y → x ≡ y

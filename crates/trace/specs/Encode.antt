@@ -7,13 +7,14 @@ use Rattle.little.specs.Little.{bytesOf}
 use Rattle.model.specs.Numbers.{Numbers}
 use Rattle.trace.specs.declared.Trailer.{Trailer}
 use Rattle.trace.specs.declared.Record.{Record}
-use Rattle.trace.specs.declared.Record.the-variants.{Read, Write, Flush}
+use Rattle.trace.specs.declared.Record.the-variants.{Read, Write, Flush, Drop}
 use Rattle.trace.specs.Format.{trailerLength}
 
 abbrev pub recordBytes : Record → List ℕ
 recordBytes (Read q) = 82 ∷ 0 ∷ bytesOf 2 q
 recordBytes (Write q v) = 87 ∷ v ∷ bytesOf 2 q
 recordBytes Flush = 70 ∷ 0 ∷ bytesOf 2 0
+recordBytes (Drop q) = 68 ∷ 0 ∷ bytesOf 2 q
 
 abbrev pub recordsBytes : List Record → List ℕ
 recordsBytes [] = []
@@ -46,6 +47,7 @@ abbrev pub RecordIn : ℕ → Record → Type 0
 RecordIn N (Read q) = q < N
 RecordIn N (Write q v) = q < N
 RecordIn N Flush = Unit {0}
+RecordIn N (Drop q) = q < N
 
 abbrev pub RecordsIn : ℕ → List Record → Type 0
 RecordsIn N [] = Unit {0}

@@ -23,7 +23,7 @@ use Rattle.trace.specs.declared.Drive.{Drive}
 use Rattle.trace.specs.declared.Checked.{Checked}
 use Rattle.trace.specs.declared.Checked.the-variants.{Refused, Fine}
 use Rattle.trace.specs.declared.Record.{Record}
-use Rattle.trace.specs.declared.Record.the-variants.{Read, Write, Flush}
+use Rattle.trace.specs.declared.Record.the-variants.{Read, Write, Flush, Drop}
 use Rattle.trace.specs.declared.Next.{Next}
 use Rattle.trace.specs.declared.Next.the-variants.{Record as Found, End}
 
@@ -92,12 +92,13 @@ headerOf s = if-else (ltb (length s) trailerLength) (Refused NotATrace) (judged 
 
 -- ---- records
 
--- "R: value 0. W: value goes to byte 0 of the page. F: value 0, page 0." Of a store of N pages; none where 8 refuses the record
+-- "R: value 0. W: value goes to byte 0 of the page. F: value 0, page 0." "the letter D with value 0". Of a store of N pages; none where 8 refuses the record
 unfoldable pub recordOf : ℕ → ℕ → ℕ → ℕ → Next
 recordOf N letter value page =
     if-else (eqb letter 82) (if-else (eqb value 0 && ltb page N) (Found (Read page)) End)
     (if-else (eqb letter 87) (if-else (ltb page N) (Found (Write page value)) End)
-    (if-else (eqb letter 70) (if-else (eqb value 0 && eqb page 0) (Found Flush) End) End))
+    (if-else (eqb letter 70) (if-else (eqb value 0 && eqb page 0) (Found Flush) End)
+    (if-else (eqb letter 68) (if-else (eqb value 0 && ltb page N) (Found (Drop page)) End) End)))
 
 -- the record whose four bytes start at byte `at`
 unfoldable pub recordIn : List ℕ → ℕ → ℕ → Next

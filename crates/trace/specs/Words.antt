@@ -6,7 +6,7 @@ use Rattle.model.specs.Words.{numberOf, namedBy}
 use Rattle.trace.specs.declared.Checked.{Checked}
 use Rattle.trace.specs.declared.Checked.the-variants.{Refused, Fine}
 use Rattle.trace.specs.declared.Record.{Record}
-use Rattle.trace.specs.declared.Record.the-variants.{Read, Write, Flush}
+use Rattle.trace.specs.declared.Record.the-variants.{Read, Write, Flush, Drop}
 use Rattle.trace.specs.declared.Next.{Next}
 use Rattle.trace.specs.declared.Next.the-variants.{Record as Found, End}
 
@@ -26,6 +26,7 @@ abbrev pub recordSays : Record → List ℕ
 recordSays (Read q) = 82 ∷ 0 ∷ q ∷ []
 recordSays (Write q v) = 87 ∷ v ∷ q ∷ []
 recordSays Flush = 70 ∷ 0 ∷ 0 ∷ []
+recordSays (Drop q) = 68 ∷ 0 ∷ q ∷ []
 
 abbrev pub nextSays : Next → List ℕ
 nextSays (Found r) = recordSays r

@@ -40,6 +40,7 @@ pub enum Record {
     Read(usize),
     Write(usize, u8),
     Flush,
+    Drop(usize),
 }
 
 // What the reader finds at a place.
@@ -162,6 +163,7 @@ fn record_of(letter: u8, value: u8, page: usize, pages: usize) -> Next
         b'R' => return found((value == 0) & (page < pages), Record::Read(page)),
         b'W' => return found(page < pages, Record::Write(page, value)),
         b'F' => return found((value == 0) & (page == 0), Record::Flush),
+        b'D' => return found((value == 0) & (page < pages), Record::Drop(page)),
         _ => return Next::End,
     }
 }

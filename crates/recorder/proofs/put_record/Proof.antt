@@ -22,9 +22,13 @@ returns-2 c = of-case _ _ (c .before .before .before .before .before .what2 .giv
 returns-3 : tie.Need-returns-3
 returns-3 c = of-case _ _ (c .before .before .before .before .enum-told .given .1) (c .before .before .put-parts3 .ensures)
 
+returns-4 : tie.Need-returns-4
+returns-4 c = of-case _ _ (c .before .before .before .before .before .what3 .given .1) (c .before .before .put-parts4 .ensures)
+
 pub put-record-spec : {M : Type 1} → statement M
 put-record-spec =
     tie.close
     (tie.spec
     (λ c. search needs) (λ c κs. search needs) (λ c. search needs) (λ c κs. search needs) (λ c. search needs) (λ c κs. search needs)
-    (λ c. search needs) returns (λ c. search needs) returns-2 (λ c. search needs) returns-3)
+    (λ c. search needs) (λ c κs. search needs)
+    (λ c. search needs) returns (λ c. search needs) returns-2 (λ c. search needs) returns-3 (λ c. search needs) returns-4)

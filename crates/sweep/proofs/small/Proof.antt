@@ -1,20 +1,19 @@
--- `sweep::small` meets its contract: it ends. The loop's invariant: the length is at least 1, `power` at least the length and at most 117,649, the sixth
--- power of 7. The measure is how far `power` is from there; a turn makes it seven times as large. Assumes nothing.
+-- `sweep::small` meets its contract: it ends. The loop's invariant: the length is at least 1, `count` at least the length and at most 823,543, the seventh power of 7. The
+-- measure is how far `count` is from there; a turn makes it seven times as large. Assumes nothing.
 use Prim.Native.Nat.{_≤_, _-_}
 use borrow.Author.Needs.{needs}
 use Rattle.sweep.proofs.small.Statement.{statement}
 use Rattle.sweep.proofs.small.Tie as tie
 
 abbrev Inv-loop : tie.InvT-loop
-Inv-loop r w power₀ length₀ t7 power length = (1 ≤ length) × (length ≤ power) × (power ≤ 117649)
+Inv-loop r w count₀ length₀ t7 count length = (1 ≤ length) × (length ≤ count) × (count ≤ 823543)
 
 abbrev μ-loop : tie.MeasureT-loop
-μ-loop r w power₀ length₀ t7 power length = 117649 - power
+μ-loop r w count₀ length₀ t7 count length = 823543 - count
 
 pub small-spec : {M : Type 1} → statement M
 small-spec =
     tie.close
     (tie.spec
-    Inv-loop μ-loop (λ c. search needs) (λ c κs. search needs) (λ c. search needs) (λ c κs. search needs)
-    (λ c κs. search needs) (λ c κs. search needs) (λ c κs. search needs) (λ c κs. search needs) (λ c. search needs)
+    Inv-loop μ-loop (λ c. search needs) (λ c. search needs) (λ c κs. search needs) (λ c. search needs)
     (λ c. search needs) (λ c. search needs) (λ c. search needs) (λ c. search needs))

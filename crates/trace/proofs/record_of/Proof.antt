@@ -20,8 +20,16 @@ returns-3 c = c .found3 .ensures ∙ rw (c .before .match .keys3)
 
 returns-4 : tie.Need-returns-4
 unfolding recordOf
-returns-4 c = let no = c .match .rest in rw (ne-eqb _ _ (no .0 .0 .1), ne-eqb _ _ (no .0 .1), ne-eqb _ _ (no .1))
+returns-4 c = c .found4 .ensures ∙ rw (c .before .match .keys4)
+
+returns-5 : tie.Need-returns-5
+unfolding recordOf
+returns-5 c =
+    let no = c .match .rest in
+    rw (ne-eqb _ _ (no .0 .0 .0 .1), ne-eqb _ _ (no .0 .0 .1), ne-eqb _ _ (no .0 .1), ne-eqb _ _ (no .1))
 
 pub record-of-spec : {M : Type 1} → statement M
 record-of-spec =
-    tie.close (tie.spec (λ c κs. search needs) returns (λ c κs. search needs) returns-2 (λ c κs. search needs) returns-3 returns-4)
+    tie.close
+    (tie.spec
+    (λ c κs. search needs) returns (λ c κs. search needs) returns-2 (λ c κs. search needs) returns-3 (λ c κs. search needs) returns-4 returns-5)

@@ -1,4 +1,4 @@
--- `casa::fine::flush` meets its contract: the frames of D and their pages lie within the lent bytes, and D goes before C. Assumes nothing.
+-- `casa::fine::flush` meets its contract: the frames of D and their pages lie within the lent bytes, and the lists are merged. Assumes nothing.
 use lib.ListN.{length}
 use borrow.Author.Needs.{needs}
 use Rattle.pool.proofs.Form.{dirty-in-places}

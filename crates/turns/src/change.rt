@@ -1,8 +1,8 @@
 // Pools in which one thing is changed: a number, a place of a list, a page or a reference number. Most of them are broken.
 ghost use Prim.Native.Nat.{_<_};
-use crate::at_most;
-use crate::chance::below;
-use crate::chance::next;
+use calls::at_most;
+use calls::chance::below;
+use calls::chance::next;
 use order::PLACES;
 use pool::Pool;
 use pool::Reads;

@@ -1,13 +1,15 @@
-// What a run does turn by turn: on which pool which call is made, and what of it counts.
-use crate::Call;
-use crate::chance;
-use crate::chance::World;
-use crate::change;
+// What a run does turn by turn: on which pool which call is made, and what of it counts. `change` spoils pools.
+mod change;
+
+use calls::Call;
+use calls::chance;
+use calls::chance::World;
 use pool::Pool;
 
-// A sequence, by the number whose digits are its letters and by its length; random calls; or random calls, each followed by every call on a changed pool.
+// A sequence, by how many letters there are, the number whose digits at that base are its own, and its length; random calls; or random calls, each followed by
+// every call on a changed pool.
 pub enum Plan {
-    Letters(usize, usize),
+    Letters(usize, usize, usize),
     Random,
     Broken,
 }
@@ -23,16 +25,18 @@ pub struct Turn {
 
 // ---- a sequence
 
-// The digit at base 7 with which `rest` digits are left, leading zeros too.
-fn digit(n: usize, rest: usize) -> usize {
-    match rest {
-        1 => n % 7,
-        2 => n / 7 % 7,
-        3 => n / 49 % 7,
-        4 => n / 343 % 7,
-        5 => n / 2401 % 7,
-        _ => n / 16807 % 7,
+// The digit with which `rest` digits are left, leading zeros too.
+fn digit(n: usize, base: usize, rest: usize) -> usize {
+    if base == 0 {
+        return 0;
     }
+    let mut first = n;
+    let mut left = rest;
+    while 1 < left {
+        first /= base;
+        left -= 1;
+    }
+    first % base
 }
 
 fn letter_kind(letter: usize) -> u8 {
@@ -42,10 +46,14 @@ fn letter_kind(letter: usize) -> u8 {
     if letter < 6 {
         return b'W';
     }
-    b'F'
+    if letter == 6 {
+        return b'F';
+    }
+    b'D'
 }
 
-// The i-th call of a sequence: letters 0 to 2 read that page, 3 to 5 write to one, 6 flushes. Stretches differ from call to call, and overlap.
+// The i-th call of a sequence: letters 0 to 2 read that page, 3 to 5 write to one, 6 flushes, 7 to 9 drop pages 1, 2 and 0. Stretches differ from call to
+// call, and overlap.
 fn small_call(world: World, i: usize, letter: usize) -> Call {
     let page = letter % 3;
     Call {
@@ -61,9 +69,9 @@ fn small_call(world: World, i: usize, letter: usize) -> Call {
 }
 
 // Only what the last call leaves is told.
-fn letter_turn(world: World, pool: Pool, n: usize, length: usize, rest: usize) -> Turn {
+fn letter_turn(world: World, pool: Pool, letter: usize, length: usize, rest: usize) -> Turn {
     let i = std::num::wrapping_sub_usize(length, rest);
-    let call = small_call(world, i, digit(n, rest));
+    let call = small_call(world, i, letter);
     Turn {
         pool,
         call,
@@ -95,17 +103,18 @@ fn random_turn(world: World, pool: Pool, seed: usize, told: bool, next: usize) -
     }
 }
 
-// The letters of the four calls on a changed pool, by how many of them are left.
+// The letters of the five calls on a changed pool, by how many of them are left.
 fn letter_with(rest: usize) -> u8 {
     match rest {
-        4 => b'R',
-        3 => b'W',
-        2 => b'F',
+        5 => b'R',
+        4 => b'W',
+        3 => b'F',
+        2 => b'D',
         _ => b'T',
     }
 }
 
-// One of the four calls on a changed pool, which is the same for all; what they do to the bytes stays.
+// One of the five calls on a changed pool, which is the same for all; what they do to the bytes stays.
 fn changed_turn(world: World, pool: Pool, seed: usize, rest: usize) -> Turn {
     let next = after_change(seed);
     Turn {
@@ -124,11 +133,13 @@ fn broken_turn(world: World, pool: Pool, seed: usize, rest: usize) -> Turn {
     changed_turn(world, pool, seed, rest)
 }
 
-// The turn with which so many are left. Five turns of a broken run belong together; a random run takes as many numbers of the sequence for one.
+// The turn with which so many are left. Six turns of a broken run belong together; a random run takes as many numbers of the sequence for one.
 pub fn turn_of(plan: Plan, world: World, pool: Pool, seed: usize, rest: usize) -> Turn {
     match plan {
-        Plan::Letters(n, length) => letter_turn(world, pool, n, length, rest),
+        Plan::Letters(letters, n, length) => {
+            letter_turn(world, pool, digit(n, letters, rest), length, rest)
+        }
         Plan::Random => random_turn(world, pool, seed, true, after_change(after_call(seed))),
-        Plan::Broken => broken_turn(world, pool, seed, rest % 5),
+        Plan::Broken => broken_turn(world, pool, seed, rest % 6),
     }
 }
