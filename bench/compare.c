@@ -140,6 +140,31 @@ static int numbered(const pool *was, const pool *is, request q)
     return is->served == was->served + 1 && given == (q.op != 2);
 }
 
+/* Whether one of the first n frames of a list has a page. */
+static int stands(const pool *p, const u8 *list, u64 n, u64 page)
+{
+    for (u64 i = 0; i < n; i++)
+        if (p->page[list[i]] == page)
+            return 1;
+    return 0;
+}
+
+/* The law of the target, for a call that is served: a read of a page in C adds to it, a write to one in D takes from it, whole units and one more where half a unit
+   or more is left; nothing else moves it. */
+static u64 target_by_law(const pool *was, request q)
+{
+    u64 c = was->clean_len, d = was->dirty_len, costs = was->read_cost + was->write_cost, top = was->frames * ONE;
+    if (q.op == 0 && stands(was, was->clean, c, q.page)) {
+        u64 above = ONE * was->read_cost * d, below = costs * c, to = was->target + above / below + (2 * (above % below) >= below);
+        return to > top ? top : to;
+    }
+    if (q.op == 1 && stands(was, was->dirty, d, q.page)) {
+        u64 above = ONE * was->write_cost * c, below = costs * d, off = above / below + (2 * (above % below) >= below);
+        return off > was->target ? 0 : was->target - off;
+    }
+    return was->target;
+}
+
 /* Whether neither of C and D is later than all of the other. */
 static int interleaved(const pool *p)
 {
@@ -160,6 +185,7 @@ static int compare_call(request q, u64 run)
     must(same_answer(&a, &b), "a call's answer", run);
     must(same_bytes(&of_twin, &of_best, store), "the bytes after a call", run);
     must(a.refused || (twin.sound(&a.pool) && (q.op == 3 || numbered(&was, &a.pool, q))), "what a served call leaves", run);
+    must(a.refused || a.pool.target == target_by_law(&was, q), "the target after a call", run);
     must(q.op != 3 || (a.refused == drop_by_law(q) && same_pool(&a.pool, &of_law.pool) && same_bytes(&of_twin, &of_law, store)), "a drop", run);
     pool p = a.pool, r = b.pool;
     must(twin.total_at(&p, target, &costs[0]) == best.total_at(&r, target, &costs[1]) && costs[0] == costs[1], "a total", run);

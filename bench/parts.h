@@ -70,15 +70,21 @@ PART u8 latest(const pool *p, u64 *c, u64 *d)
     return clean ? p->clean[(*c)++] : p->dirty[(*d)++];
 }
 
+/* A step of above over below of a page, in units: to the nearest, a half upwards. */
+static u64 step_units(u64 above, u64 below)
+{
+    return (2 * ONE * above + below) / (2 * below);
+}
+
 static void raise(pool *p, u64 above, u64 below)
 {
-    u64 t = p->target + ONE * above / below;
+    u64 t = p->target + step_units(above, below);
     p->target = t < p->frames * ONE ? t : p->frames * ONE;
 }
 
 static void lower(pool *p, u64 above, u64 below)
 {
-    u64 t = ONE * above / below;
+    u64 t = step_units(above, below);
     p->target = t < p->target ? p->target - t : 0;
 }
 

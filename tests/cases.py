@@ -174,9 +174,31 @@ def dropped():
     yield 'drop-flush-order', trace(told('R0 W1 R2 W3 D1 F') + reads(4, 8), b=4)
 
 
+def rounded():
+    """Steps that go to the nearest unit, from just below a half and from just above it; no opened costs make exactly a half, which exact.py makes by other costs. With
+    a page in either list 964/1,911 of a page are 33,059 and 955/1,911 units, and 947/1,911 are 32,476 and 956/1,911. The nearest that there are lie 1/218,746
+    of a unit below a half and 1/240,786 above it. Read hits before a write hit raise the target, so that the whole step shows."""
+    for side, r, w in (('below', 964, 947), ('above', 947, 964)):
+        yield 'half-read-' + side, trace(told('R0 W1 R0'), r=r, w=w)
+    yield 'half-write-below', trace(told('R0 W1 R0 R0 W1'), r=947, w=964)
+    yield 'half-write-above', trace(told('R0 W1 R0 W1'), r=964, w=947)
+    for side, many, less, more in (('below', 61, 872, 921), ('above', 63, 947, 964)):
+        size = dict(b=many + 1, N=many + 1)
+        yield 'half-read-%s-nearest' % side, trace(reads(0, many) + DIRTY[many:many + 1] + reads(0, 1), r=less, w=more, **size)
+        yield 'half-write-%s-nearest' % side, trace(reads(0, 1) + DIRTY[1:many + 1] + reads(0, 1) + DIRTY[1:2], r=more, w=less, **size)
+    # rounded, then held: 43,690 and 2/3 units go as 43,691. Record 9 makes this step from just so far below the top, record 12 from a unit nearer to it
+    yield 'step-near-the-top', trace(told('R0 W1 R0 R0 R0 W2 R0 R0 R0 W1 W1 R0'), b=3, r=1, w=2)
+    # record 15 takes as much from 43,691 and record 18 from 43,690. Always rounded down, either trace would end 3 units off
+    yield 'step-near-0', trace(told('R0 W1 W2 R0 R0 R0 R0 R0 W1 W2 W1 D2 W1 W1 W1 R0 R0 W1'), b=3, r=1, w=2)
+    # on the usual drive 44 read hits of 1/22 of a page make the exact target 2, as many as are clean: page 3 takes the dirty page's frame, and pages 0 and 1
+    # are hit once more. Always rounded down, the target would be 40 units short, and they would go one after the other
+    yield 'long-read-night', trace(told('R0 R1 W2 ' + 'R0 R1 ' * 22 + 'R3 R0 R1 R2 R3'), b=3, r=1, w=10)
+
+
 def cases():
     yield from edges()
     yield from dropped()
+    yield from rounded()
     rng = random.Random(20101122)
     for k in range(150):
         yield 'random-%03d' % k, valid(rng)

@@ -34,6 +34,11 @@ def allowed(b, P, N, r, w):
     return 1 <= b <= 64 and 16 <= P <= 4096 and 1 <= N <= 65536 and 1 <= r <= 1000 and 1 <= w <= 1000
 
 
+def nearest(above, below):
+    """above / below in whole units. Request 6: "Both steps now go to the nearest unit, a half upwards": what is taken as well as what is added."""
+    return (2 * above + below) // (2 * below)
+
+
 class Pool:
     """The pool by the scope's words: E, C, D hold frames, in C and D the most recently used first, in E the one that is taken next last. A resident frame's
     reference is the number of the served call that last read or wrote its page."""
@@ -101,14 +106,14 @@ class Pool:
                 if writes:
                     self.D.insert(0, f)
                 else:
-                    self.target = min(self.target + UNIT * r * d // ((r + w) * c), self.b * UNIT)
+                    self.target = min(self.target + nearest(UNIT * r * d, (r + w) * c), self.b * UNIT)
                     self.C.insert(0, f)
                 return f, ('hit', None, 0)
         for f in self.D:
             if self.page[f] == page:
                 self.D.remove(f)
                 if writes:
-                    self.target = max(self.target - UNIT * w * c // ((r + w) * d), 0)
+                    self.target = max(self.target - nearest(UNIT * w * c, (r + w) * d), 0)
                 self.D.insert(0, f)
                 return f, ('hit', None, 0)
         victim, written = None, 0

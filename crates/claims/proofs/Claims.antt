@@ -19,7 +19,7 @@ use Rattle.model.specs.Numbers.{Numbers, Limits, meant}
 use Rattle.model.specs.Words.{opened as saidOpened, refusalSays}
 use Rattle.model.specs.State.{opened as openedState, pageIn, numberIn, resident}
 use Rattle.model.specs.References.{lastReference}
-use Rattle.model.specs.Target.{Adjustment, Exact, exactZero, exactAll, WithinUnits, Bounded, FurtherThan, aboveExact}
+use Rattle.model.specs.Target.{Adjustment, Exact, exactZero, exactAll, Near, Bounded, FurtherThan, aboveExact}
 use Rattle.model.specs.Refusals.{openVerdict, GivenBy}
 use Rattle.model.specs.Request.{locate}
 use Rattle.model.specs.Moves.{laid}
@@ -158,7 +158,7 @@ module _ (n : Numbers) (accepted : openVerdict n ≡ Fine) (frames store : List 
       × LatestFirst lastReferenced (stateOf (used .state)) (stateOf (used .state) .lists .D)
   latest-first = run-ordered n accepted frames store cs
 
-  -- ---- demand 3: after k adjustments the target is within k/65,536 of a page of the exact target, which is held between 0 and b
+  -- ---- demand 3: after k adjustments "twice the gap is at most k units", that between the target and the exact target, which is held between 0 and b
 
   abbrev pub made : List Adjustment
   made = gathered pools adjusting (opened n frames store) cs
@@ -166,7 +166,7 @@ module _ (n : Numbers) (accepted : openVerdict n ≡ Fine) (frames store : List 
   abbrev pub exact : Exact
   exact = exactAll (meant n .b) exactZero made
 
-  pub demand-3 : WithinUnits (length made) (used .state .target) exact
+  pub demand-3 : Near (length made) (used .state .target) exact
   demand-3 = run-near n accepted frames store cs
 
   pub demand-3-bounded : Bounded (meant n .b) exact

@@ -9,7 +9,7 @@ use lib.ListN.{length}
 use borrow.Author.Tests.{le-ltb}
 use Rattle.model.specs.Numbers.{Numbers, meant}
 use Rattle.model.specs.Words.{faultSays, answerSays}
-use Rattle.model.specs.Target.{Costs, Adjustment, Exact, exactZero, exactAll, WithinUnits, Bounded, FurtherThan, aboveExact}
+use Rattle.model.specs.Target.{Costs, Adjustment, Exact, exactZero, exactAll, Near, Bounded, FurtherThan, aboveExact}
 use Rattle.model.specs.State.{State, opened as openedState}
 use Rattle.model.specs.Refusals.{openVerdict}
 use Rattle.model.specs.Request.{locate, victimBy, chosen, taken, request, requestAt}
@@ -20,7 +20,7 @@ use Rattle.model.specs.declared.Place.{Place}
 use Rattle.model.specs.declared.Place.the-variants.{Absent}
 use Rattle.model.specs.declared.Choice.{Choice}
 use Rattle.model.specs.declared.Verdict.the-variants.{Fine}
-use Rattle.model.proofs.Drift.{target-within, exact-bounded, victim-same}
+use Rattle.model.proofs.Drift.{target-near, exact-bounded, victim-same}
 use Rattle.model.proofs.Adjust.{Adjusted, stays, request-adjusted, flush-adjusted, drop-adjusted, adjusted-append}
 use Rattle.model.proofs.Refusals.{call-cases}
 use Rattle.model.proofs.LastWritten.{call-good}
@@ -87,15 +87,15 @@ module _ (n : Numbers) (accepted : openVerdict n ≡ Fine) (frames store : List 
   pub run-numbers : stateOf (used .state) .numbers ≡ meant n
   run-numbers = run-moved .numbers
 
-  pub run-near : WithinUnits (length made) (used .state .target) (exactAll (meant n .b) exactZero made)
-  run-near = rw (run-moved .target) (target-within (meant n .b) made (run-moved .divide))
+  pub run-near : Near (length made) (used .state .target) (exactAll (meant n .b) exactZero made)
+  run-near = rw (run-moved .target) (target-near (meant n .b) made (run-moved .divide))
 
   pub run-bounded : Bounded (meant n .b) (exactAll (meant n .b) exactZero made)
   run-bounded = exact-bounded (meant n .b) made (run-moved .divide)
 
 -- ---- the victim that a fault says
 
-module _ (x : World Pool) (s : Sound (x .state)) (k : ℕ) (exact : Exact) (near : WithinUnits k (x .state .target) exact)
+module _ (x : World Pool) (s : Sound (x .state)) (k : ℕ) (exact : Exact) (near : Near k (x .state .target) exact)
     (full : length (stateOf (x .state) .lists .E) ≡ 0) (far : FurtherThan k (length (stateOf (x .state) .lists .C)) exact)
     (q : ℕ) (absent : locate (stateOf (x .state)) q ≡ Absent) where
   abbrev state : State

@@ -1,4 +1,4 @@
--- The scope's listing and its examples P1 to P9: one table with one statement, which the checker computes from the definitions.
+-- The scope's listing, its examples P1 to P9, and steps that end in just a half: one table with one statement, which the checker computes from the definitions.
 -- Assumes nothing.
 use mathlib.Core.List.{List, [], _∷_}
 use Prim.Native.Nat.{ℕ, _-_}
@@ -8,8 +8,10 @@ use Rattle.model.specs.Words.{Said, hit, fault, faultClean, faultDirty, 
 use Rattle.model.specs.Counts.{totalCost}
 use Rattle.model.specs.Bytes.{Memory}
 use Rattle.model.specs.State.{State, opened, withTarget, pageIn}
-use Rattle.model.specs.Request.{states}
+use Rattle.model.specs.Target.{Costs, costs}
+use Rattle.model.specs.Request.{states, request}
 use Rattle.model.specs.Run.{World, Call, read, write, flush, outcomeOf, served}
+use Rattle.model.specs.declared.Op.{Op}
 use Rattle.model.specs.declared.Op.the-variants.{Read, Write}
 
 -- a record of a trace: a read, a write of one byte to byte 0, a flush
@@ -78,6 +80,14 @@ climb = R 0 ∷ W 1 7 ∷ R 0 ∷ R 0 ∷ R 0 ∷ R 2 ∷ R 3 ∷ []
 abbrev pub balanced : State
 balanced = withTarget 65536 (afterRecords (start 1 2) (R 0 ∷ W 1 7 ∷ []) .state)
 
+-- costs with which the steps of `balanced` end in just a half: a read hit in C adds 1.5 units, a write hit in D takes 65,534.5
+abbrev pub halfCosts : Costs
+halfCosts = costs 3 131069
+
+-- what such a hit on page q leaves of a target of τ
+abbrev pub halfFrom : Op → ℕ → ℕ → ℕ
+halfFrom op q τ = request op halfCosts (withTarget τ balanced) q .state .target
+
 pub record Worked : Type 0 where
   pub listing : List Row
   -- nR, nW and the total cost of the listing's end line
@@ -86,6 +96,10 @@ pub record Worked : Type 0 where
   -- P8: what a write hit in D takes, and what a read hit in C adds
   pub takes : ℕ
   pub adds : ℕ
+  -- with those costs: what a read hit leaves of 0, and of two units and one below the top; what a write hit leaves of the top, of just what it takes, and of a
+  -- unit less
+  pub halfUp : List ℕ
+  pub halfDown : List ℕ
 
 abbrev pub worked : Worked
 worked =
@@ -96,6 +110,8 @@ worked =
       climb = rows (start 3 1) climb;
       takes = 65536 - outcomeOf states Write (record { state = balanced; memory = start 1 2 .memory }) 1 .state .target;
       adds = outcomeOf states Read (record { state = balanced; memory = start 1 2 .memory }) 0 .state .target - 65536;
+      halfUp = halfFrom Read 0 0 ∷ halfFrom Read 0 131070 ∷ halfFrom Read 0 131071 ∷ [];
+      halfDown = halfFrom Write 1 131072 ∷ halfFrom Write 1 65535 ∷ halfFrom Write 1 65534 ∷ [];
     }
 
 abbrev pub row : Said → ℕ → List ℕ → List ℕ → ℕ → List ℕ → Row
@@ -134,6 +150,8 @@ expected =
           ∷ row (faultClean 0) 0 (3 ∷ 2 ∷ []) [] 131072 (0 ∷ [])
           ∷ [];
       -- P8
-      takes = 43690;
+      takes = 43691;
       adds = 21845;
+      halfUp = 2 ∷ 131072 ∷ 131072 ∷ [];
+      halfDown = 65537 ∷ 0 ∷ 0 ∷ [];
     }

@@ -36,9 +36,14 @@ abbrev pub stepDen : Adjustment → ℕ
 stepDen (up k c d) = (k .r + k .w) * c
 stepDen (down k c d) = (k .r + k .w) * d
 
--- "All divisions round down."
+-- "to the nearest unit, a half upwards": half a unit more, rounded down
 abbrev pub rounded : ℕ → ℕ → ℕ
-rounded n d = n / d
+rounded n d = (2 * n + d) / (2 * d)
+
+-- and what that means: q is the whole number nearest to n / d, and where two are as near the upper one
+pub record Nearest (n d q : ℕ) : Type 0 where
+  pub over : 2 * (q * d) ≤ 2 * n + d
+  pub under : 2 * n < 2 * (q * d) + d
 
 -- ---- the pool's target, for a way to round
 
@@ -90,29 +95,24 @@ pub record RoundsWithin (e : ℕ) (round : ℕ → ℕ → ℕ) : Type 0 where
   pub over : (n d : ℕ) → 0 < d → 2 * (round n d * d) ≤ 2 * n + e * d
   pub under : (n d : ℕ) → 0 < d → 2 * n ≤ 2 * (round n d * d) + e * d
 
--- rounding down leaves off less than a unit, that is two halves
+-- the nearest unit is at most half a unit away
 abbrev pub roundingError : ℕ
-roundingError = 2
+roundingError = 1
 
--- twice the gap between τ / 65,536 and num / den is at most g units, by cross-multiplying
-pub record Near (g τ : ℕ) (x : Exact) : Type 0 where
-  pub above : 2 * (τ * x .den) ≤ 2 * (unit * x .num) + g * x .den
-  pub below : 2 * (unit * x .num) ≤ 2 * (τ * x .den) + g * x .den
-
--- "at most k/65,536 of a page from it"
-pub record WithinUnits (k τ : ℕ) (x : Exact) : Type 0 where
-  pub above : τ * x .den ≤ unit * x .num + k * x .den
-  pub below : unit * x .num ≤ τ * x .den + k * x .den
+-- "twice the gap is at most k units": the gap between τ / 65,536 and num / den, by cross-multiplying
+pub record Near (k τ : ℕ) (x : Exact) : Type 0 where
+  pub above : 2 * (τ * x .den) ≤ 2 * (unit * x .num) + k * x .den
+  pub below : 2 * (unit * x .num) ≤ 2 * (τ * x .den) + k * x .den
 
 -- the exact target is a fraction from 0 to b
 pub record Bounded (b : ℕ) (x : Exact) : Type 0 where
   pub positive : 0 < x .den
   pub most : x .num ≤ b * x .den
 
--- a clean list of c pages is further than k units from the exact target, above it or below it
+-- a clean list of c pages is further than that from the exact target, above it or below it: twice their gap is more than k units
 pub data FurtherThan (k c : ℕ) (x : Exact) : Type 0 where
-  longer : unit * x .num + k * x .den < unit * (c * x .den) → FurtherThan k c x
-  shorter : unit * (c * x .den) + k * x .den < unit * x .num → FurtherThan k c x
+  longer : 2 * (unit * x .num) + k * x .den < 2 * (unit * (c * x .den)) → FurtherThan k c x
+  shorter : 2 * (unit * (c * x .den)) + k * x .den < 2 * (unit * x .num) → FurtherThan k c x
 
 -- "It picks C if |C| is above it, else D."
 abbrev pub aboveTarget : ℕ → ℕ → Bool

@@ -3,9 +3,17 @@ ghost use mathlib.Core.Path.{_≡_};
 ghost use Prim.Native.Nat.{_+_, _*_, _≤_};
 ghost use Rattle.order.specs.Places.{places};
 ghost use Rattle.model.specs.Numbers.{unit};
-ghost use Rattle.model.specs.Target.{up, down, adjust, costs, mostCost};
+ghost use Rattle.model.specs.Target.{up, down, rounded, adjust, costs, mostCost};
 ghost use Rattle.model.specs.Request.{chosenBy, ChoiceIn};
 use model::Choice;
+
+// A step of `above` over `below` of a page, in units: to the nearest, a half upwards.
+fn step_units(above: u64, below: u64) -> u64
+    requires { ⌜ (above ≤ mostCost * places) × (1 ≤ below) × (below ≤ 2 * mostCost * places) ⌝ }
+    ensures { λ r. ⌜ r ≡ rounded (unit * above) below ⌝ }
+{
+    (2 * (65536 * above) + below) / (2 * below)
+}
 
 // Up by a read hit in C, with `cn` clean and `dn` dirty frames.
 pub fn raise(frames: u64, target: u64, read_cost: u64, write_cost: u64, cn: u64, dn: u64) -> u64
@@ -13,7 +21,8 @@ pub fn raise(frames: u64, target: u64, read_cost: u64, write_cost: u64, cn: u64,
         × (1 ≤ cn) × (cn ≤ places) × (dn ≤ places) ⌝ }
     ensures { λ r. ⌜ r ≡ adjust frames target (up (costs «read_cost» «write_cost») cn dn) ⌝ }
 {
-    let sum = target + 65536 * (read_cost * dn) / ((read_cost + write_cost) * cn);
+    let step = step_units(read_cost * dn, (read_cost + write_cost) * cn);
+    let sum = target + step;
     let top = frames * 65536;
     if sum < top {
         return sum;
@@ -26,7 +35,7 @@ pub fn lower(frames: u64, target: u64, read_cost: u64, write_cost: u64, cn: u64,
     requires { ⌜ (1 ≤ «read_cost») × («read_cost» ≤ mostCost) × («write_cost» ≤ mostCost) × (cn ≤ places) × (1 ≤ dn) × (dn ≤ places) ⌝ }
     ensures { λ r. ⌜ r ≡ adjust frames target (down (costs «read_cost» «write_cost») cn dn) ⌝ }
 {
-    let step = 65536 * (write_cost * cn) / ((read_cost + write_cost) * dn);
+    let step = step_units(write_cost * cn, (read_cost + write_cost) * dn);
     if step < target {
         return target - step;
     }
