@@ -83,7 +83,7 @@ pub fn drop(pool: Pool, page: usize, frames: &[u8], store: &mut [u8]) -> Dropped
 {
     let size = pool.page_bytes;
     pages::wipe(store, page, size);
-    let dropped = step::drop_lists(pool, page);
+    let dropped = cut::drop_lists(pool, page);
     Dropped {
         pool: dropped,
         answer: Dropping::Dropped,

@@ -1,5 +1,4 @@
--- The laws of `step`: Hits, Faults, Drops and Requests say what each part leaves. Assumes nothing.
+-- The laws of `step`: Hits, Faults and Requests say what each part leaves. Assumes nothing.
 pub mod Hits
 pub mod Faults
-pub mod Drops
 pub mod Requests

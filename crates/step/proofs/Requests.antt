@@ -1,4 +1,4 @@
--- A request or a drop as a whole. Where the code finds the page is where the state has it, at a place of its list; what is done there is the request, or the drop.
+-- A request as a whole. Where the code finds the page is where the state has it, at a place of its list; what is done there is the request.
 -- Assumes nothing.
 use mathlib.Core.Path.{_≡_, sym, _∙_}
 use Prim.Native.Nat.{ℕ, _<_}
@@ -6,12 +6,12 @@ use native.Mathlib.Omega.{arith}
 use lib.ListN.{take}
 use Rattle.order.specs.Find.{findFrom}
 use Rattle.model.specs.Target.{Costs}
-use Rattle.model.specs.Request.{placeBy, locate, requestAt, request, droppedAt, dropped}
+use Rattle.model.specs.Request.{placeBy, locate, requestAt, request}
 use Rattle.model.specs.declared.Op.{Op}
 use Rattle.model.specs.declared.Place.{Place}
 use Rattle.model.specs.declared.Place.the-variants.{InClean, InDirty}
 use Rattle.model.proofs.Steps.{PlaceRight, locate-right}
-use Rattle.pool.specs.Pool.{poolOf, stateOf, Sound}
+use Rattle.pool.specs.Pool.{stateOf, Sound}
 use Rattle.pool.specs.declared.Pool.{Pool}
 use Rattle.pool.proofs.Form.{clean-in-places, dirty-in-places, find-clean, find-dirty}
 use Rattle.step.specs.Step.{stepOf}
@@ -35,6 +35,3 @@ module _ (p : Pool) (s : Sound p) (q : ℕ) (x : Place) (e : x ≡ locate (state
   -- what is done there
   pub request-is : (k : Costs) (op : Op) {y : Place} → x ≡ y → stepOf (requestAt op k (stateOf p) q y) ≡ stepOf (request op k (stateOf p) q)
   request-is k op b = λ i. stepOf (requestAt op k (stateOf p) q ((sym b ∙ e) i))
-
-  pub drop-is : {y : Place} → x ≡ y → poolOf (droppedAt (stateOf p) y) ≡ poolOf (dropped (stateOf p) q)
-  drop-is b = λ i. poolOf (droppedAt (stateOf p) ((sym b ∙ e) i))

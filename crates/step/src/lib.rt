@@ -1,15 +1,14 @@
-// One request, one flush and one drop on a sound pool: where the page is, which frame is taken, and the pool afterwards. No byte of a page is touched here.
+// One request and one flush on a sound pool: where the page is, which frame is taken, and the pool afterwards. No byte of a page is touched here.
 ghost use mathlib.Core.Path.{_≡_};
 ghost use Prim.Native.Nat.{ℕ, _≤_, _<_};
 ghost use lib.ListN.{getD, take};
 ghost use Rattle.order.specs.Places.{places};
 ghost use Rattle.order.specs.Find.{findFrom};
-ghost use Rattle.model.specs.Request.{placeBy, locate, request, flushed, dropped};
+ghost use Rattle.model.specs.Request.{placeBy, locate, request, flushed};
 ghost use Rattle.pool.specs.Pool.{poolOf, stateOf, Sound};
 ghost use Rattle.model.specs.Target.{costs, mostCost};
 ghost use Rattle.step.specs.Step.{stepOf};
 
-mod drop;
 mod fault;
 mod hit;
 
@@ -69,7 +68,7 @@ fn place_of(
 }
 
 // Where a sound pool has a page.
-fn locate(pool: Pool, wanted: u16) -> Place
+pub fn locate(pool: Pool, wanted: u16) -> Place
     requires { ⌜ Sound pool ⌝ }
     ensures { λ r. ⌜ r ≡ locate (stateOf pool) wanted ⌝ }
 {
@@ -133,19 +132,4 @@ pub fn flush_lists(pool: Pool) -> Pool
     next.served = pool.served + 1;
     next.writes = writes;
     next
-}
-
-// A drop of a page on a sound pool: a frame that has it becomes the last of E, and is no longer referenced.
-pub fn drop_lists(pool: Pool, page: usize) -> Pool
-    requires { ⌜ Sound pool ⌝ }
-    requires { ⌜ page < pool .pages ⌝ }
-    ensures { λ r. ⌜ r ≡ poolOf (dropped (stateOf pool) page) ⌝ }
-{
-    let wanted = page as u16;
-    let place = locate(pool, wanted);
-    match place {
-        Place::InClean(i) => drop::clean(pool, i),
-        Place::InDirty(i) => drop::dirty(pool, i),
-        Place::Absent => drop::absent(pool),
-    }
 }

@@ -1,11 +1,11 @@
--- `step::drop::clean` meets its contract. C is held by its places without the frame, which leaves room for it in E. Assumes nothing.
+-- `cut::clean` meets its contract. C is held by its places without the frame, which leaves room for it in E. Assumes nothing.
 use native.Mathlib.Omega.{arith}
 use borrow.Author.Needs.{needs}
 use Rattle.order.proofs.Places.{in-places-getD, remove-in-places}
 use Rattle.pool.proofs.Form.{clean-in-places, dirty-in-places, clean-frame}
-use Rattle.step.proofs.Drops.{room-by-clean}
-use Rattle.step.proofs.drop.clean.Statement.{statement}
-use Rattle.step.proofs.drop.clean.Tie as tie
+use Rattle.cut.proofs.Drops.{room-by-clean}
+use Rattle.cut.proofs.clean.Statement.{statement}
+use Rattle.cut.proofs.clean.Tie as tie
 
 take-out-requires : tie.Need-take-out-requires
 take-out-requires c κs = (search needs, omega (arith, clean-in-places _ (c .before .before .before .before .pre .0) .fits))

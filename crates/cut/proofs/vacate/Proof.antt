@@ -1,11 +1,11 @@
--- `step::drop::vacate` meets its contract. E has room for the frame, which stands behind its last; the frame's page and number become 0, and the lists that the
+-- `cut::vacate` meets its contract. E has room for the frame, which stands behind its last; the frame's page and number become 0, and the lists that the
 -- places hold are those of the next state. Assumes nothing.
 use native.Mathlib.Omega.{arith}
 use borrow.Author.Needs.{needs}
 use Rattle.pool.proofs.Form.{writes-fit}
-use Rattle.step.proofs.Drops.{vacate-is}
-use Rattle.step.proofs.drop.vacate.Statement.{statement}
-use Rattle.step.proofs.drop.vacate.Tie as tie
+use Rattle.cut.proofs.Drops.{vacate-is}
+use Rattle.cut.proofs.vacate.Statement.{statement}
+use Rattle.cut.proofs.vacate.Tie as tie
 
 add-writes : tie.Need-add-next
 add-writes c = omega (arith, writes-fit _ (c .before .before .before .before .pre .0))

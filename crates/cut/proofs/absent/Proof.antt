@@ -1,10 +1,10 @@
--- `step::drop::absent` meets its contract: no frame has the page, so only the counts change. Assumes nothing.
+-- `cut::absent` meets its contract: no frame has the page, so only the counts change. Assumes nothing.
 use native.Mathlib.Omega.{arith}
 use borrow.Author.Needs.{needs}
 use Rattle.pool.proofs.Form.{writes-fit}
-use Rattle.step.proofs.Drops.{absent-is}
-use Rattle.step.proofs.drop.absent.Statement.{statement}
-use Rattle.step.proofs.drop.absent.Tie as tie
+use Rattle.cut.proofs.Drops.{absent-is}
+use Rattle.cut.proofs.absent.Statement.{statement}
+use Rattle.cut.proofs.absent.Tie as tie
 
 pub absent-spec : {M : Type 1} → statement M
 absent-spec =

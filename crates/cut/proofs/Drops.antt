@@ -1,7 +1,7 @@
 -- What a drop leaves. The frame stands behind the last of E, with 0 for its page and its number, C or D is held by its places without it, and so the whole pool
 -- holds the next state. Where no frame has the page, only the counts change.
 -- Assumes nothing.
-use mathlib.Core.Path.{_≡_, refl, sym, subst}
+use mathlib.Core.Path.{_≡_, refl, sym, _∙_, subst}
 use Prim.Native.Nat.{ℕ, _+_, _<_}
 use native.Mathlib.Nat.{add-zero}
 use native.Mathlib.Omega.{arith}
@@ -10,7 +10,8 @@ use lib.ListN.{set}
 use Rattle.order.specs.Places.{places, InPlaces}
 use Rattle.order.proofs.Places.{tail-in-places}
 use Rattle.model.specs.State.{withLists, counted}
-use Rattle.model.specs.Request.{vacated, droppedAt}
+use Rattle.model.specs.Request.{vacated, locate, droppedAt, dropped}
+use Rattle.model.specs.declared.Place.{Place}
 use Rattle.model.specs.declared.Place.the-variants.{Absent}
 use Rattle.pool.specs.Pool.{poolOf, stateOf, Sound}
 use Rattle.pool.specs.declared.Pool.{Pool}
@@ -43,3 +44,7 @@ module _ (p : Pool) (s : Sound p) where
   absent-is =
       refilled-is p (stateOf p) (stateOf p .page) (stateOf p .reference) (s .whole) (empty-in-places p s) (clean-in-places p s) (dirty-in-places p s)
       (page-pad p s) (reference-pad p s) refl refl (sym (add-zero (p .reads .0))) refl
+
+-- what is done where the page is, is the drop of it
+pub drop-is : (p : Pool) (q : ℕ) (x : Place) → x ≡ locate (stateOf p) q → {y : Place} → x ≡ y → poolOf (droppedAt (stateOf p) y) ≡ poolOf (dropped (stateOf p) q)
+drop-is p q x e b = λ i. poolOf (droppedAt (stateOf p) ((sym b ∙ e) i))

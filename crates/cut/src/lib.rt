@@ -1,10 +1,10 @@
-// A drop: the frame that has the page, if there is one, leaves C or D and becomes the last of E.
+// One drop on a sound pool: the frame that has the page, if there is one, leaves C or D and becomes the last of E. No byte of a page is touched here.
 ghost use mathlib.Core.Path.{_≡_};
 ghost use Prim.Native.Nat.{ℕ, _<_};
 ghost use mathlib.Core.List.{List};
 ghost use Rattle.order.specs.Places.{places, InPlaces};
 ghost use Rattle.model.specs.State.{withLists, counted};
-ghost use Rattle.model.specs.Request.{vacated, droppedAt};
+ghost use Rattle.model.specs.Request.{vacated, droppedAt, dropped};
 ghost use Rattle.pool.specs.Pool.{poolOf, stateOf, Sound};
 use model::Place;
 use order::PLACES;
@@ -46,7 +46,7 @@ fn vacate(
 }
 
 // The page is in C.
-pub fn clean(pool: Pool, at: usize) -> Pool
+fn clean(pool: Pool, at: usize) -> Pool
     requires { ⌜ Sound pool ⌝ }
     requires { ⌜ at < pool .«clean_len» ⌝ }
     ensures { λ r. ⌜ r ≡ poolOf (droppedAt (stateOf pool) (Place.InClean at)) ⌝ }
@@ -60,7 +60,7 @@ pub fn clean(pool: Pool, at: usize) -> Pool
 }
 
 // The page is in D: what was changed is lost with it.
-pub fn dirty(pool: Pool, at: usize) -> Pool
+fn dirty(pool: Pool, at: usize) -> Pool
     requires { ⌜ Sound pool ⌝ }
     requires { ⌜ at < pool .«dirty_len» ⌝ }
     ensures { λ r. ⌜ r ≡ poolOf (droppedAt (stateOf pool) (Place.InDirty at)) ⌝ }
@@ -74,7 +74,7 @@ pub fn dirty(pool: Pool, at: usize) -> Pool
 }
 
 // No frame has the page: the write of it counts all the same.
-pub fn absent(pool: Pool) -> Pool
+fn absent(pool: Pool) -> Pool
     requires { ⌜ Sound pool ⌝ }
     ensures { λ r. ⌜ r ≡ poolOf (droppedAt (stateOf pool) Place.Absent) ⌝ }
 {
@@ -83,4 +83,19 @@ pub fn absent(pool: Pool) -> Pool
     next.served = pool.served + 1;
     next.writes = counted;
     next
+}
+
+// A drop of a page on a sound pool: a frame that has it becomes the last of E, and is no longer referenced.
+pub fn drop_lists(pool: Pool, page: usize) -> Pool
+    requires { ⌜ Sound pool ⌝ }
+    requires { ⌜ page < pool .pages ⌝ }
+    ensures { λ r. ⌜ r ≡ poolOf (dropped (stateOf pool) page) ⌝ }
+{
+    let wanted = page as u16;
+    let place = step::locate(pool, wanted);
+    match place {
+        Place::InClean(i) => clean(pool, i),
+        Place::InDirty(i) => dirty(pool, i),
+        Place::Absent => absent(pool),
+    }
 }

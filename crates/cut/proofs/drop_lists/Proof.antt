@@ -1,9 +1,10 @@
--- `step::drop_lists` meets its contract: the place is one of its list, and what is called for it does what the model does there. Assumes nothing.
+-- `cut::drop_lists` meets its contract: the place is one of its list, and what is called for it does what the model does there. Assumes nothing.
 use mathlib.Core.Path.{_∙_}
 use borrow.Author.Needs.{needs}
-use Rattle.step.proofs.Requests.{clean-place, dirty-place, drop-is}
-use Rattle.step.proofs.drop_lists.Statement.{statement}
-use Rattle.step.proofs.drop_lists.Tie as tie
+use Rattle.step.proofs.Requests.{clean-place, dirty-place}
+use Rattle.cut.proofs.Drops.{drop-is}
+use Rattle.cut.proofs.drop_lists.Statement.{statement}
+use Rattle.cut.proofs.drop_lists.Tie as tie
 
 clean-requires : tie.Need-clean-requires
 clean-requires c κs =
@@ -20,17 +21,17 @@ dirty-requires c κs =
 returns : tie.Need-returns
 returns c =
     let u = c .before .before .before .before in
-    c .clean .ensures ∙ drop-is _ (u .before .pre .0) _ _ (u .locate .ensures) (c .before .before .place .given .1)
+    c .clean .ensures ∙ drop-is (u .before .args .pool) _ _ (u .locate .ensures) (c .before .before .place .given .1)
 
 returns-2 : tie.Need-returns-2
 returns-2 c =
     let u = c .before .before .before .before in
-    c .dirty .ensures ∙ drop-is _ (u .before .pre .0) _ _ (u .locate .ensures) (c .before .before .place2 .given .1)
+    c .dirty .ensures ∙ drop-is (u .before .args .pool) _ _ (u .locate .ensures) (c .before .before .place2 .given .1)
 
 returns-3 : tie.Need-returns-3
 returns-3 c =
     let u = c .before .before .before in
-    c .absent .ensures ∙ drop-is _ (u .before .pre .0) _ _ (u .locate .ensures) (c .before .enum-told .given .1)
+    c .absent .ensures ∙ drop-is (u .before .args .pool) _ _ (u .locate .ensures) (c .before .enum-told .given .1)
 
 pub drop-lists-spec : {M : Type 1} → statement M
 drop-lists-spec =

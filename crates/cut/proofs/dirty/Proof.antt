@@ -1,11 +1,11 @@
--- `step::drop::dirty` meets its contract. D is held by its places without the frame, which leaves room for it in E. Assumes nothing.
+-- `cut::dirty` meets its contract. D is held by its places without the frame, which leaves room for it in E. Assumes nothing.
 use native.Mathlib.Omega.{arith}
 use borrow.Author.Needs.{needs}
 use Rattle.order.proofs.Places.{in-places-getD, remove-in-places}
 use Rattle.pool.proofs.Form.{clean-in-places, dirty-in-places, dirty-frame}
-use Rattle.step.proofs.Drops.{room-by-dirty}
-use Rattle.step.proofs.drop.dirty.Statement.{statement}
-use Rattle.step.proofs.drop.dirty.Tie as tie
+use Rattle.cut.proofs.Drops.{room-by-dirty}
+use Rattle.cut.proofs.dirty.Statement.{statement}
+use Rattle.cut.proofs.dirty.Tie as tie
 
 take-out-requires : tie.Need-take-out-requires
 take-out-requires c κs = (search needs, omega (arith, dirty-in-places _ (c .before .before .before .before .pre .0) .fits))
