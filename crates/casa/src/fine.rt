@@ -67,7 +67,7 @@ pub fn flush(pool: Pool, frames: &[u8], store: &mut [u8]) -> Flushed
     let n = pool.dirty_len;
     let dirty = pool.dirty;
     let page = pool.page;
-    pages::write_back_all(store, frames, dirty, n, page, size);
+    dirty::write_back_all(store, frames, dirty, n, page, size);
     let next = step::flush_lists(pool);
     Flushed {
         pool: next,

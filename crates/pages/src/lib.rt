@@ -1,12 +1,11 @@
 // The bytes of a page buffer: whole pages go between the frame memory and the store, a write goes to a stretch of a frame, and a page of the store is wiped.
 // Nothing here knows which page is wanted or which frame is given up: that is the policy's.
 ghost use mathlib.Core.Path.{_≡_};
-ghost use Prim.Native.Nat.{ℕ, _+_, _*_, _≤_, _<_};
-ghost use lib.ListN.{length, getD, take, replicate};
+ghost use Prim.Native.Nat.{_+_, _*_, _≤_};
+ghost use lib.ListN.{length, replicate};
 ghost use Rattle.order.specs.Places.{places};
 ghost use Rattle.pages.specs.Pages.{splice, pageOf, withPage, InPages};
-ghost use Rattle.pages.specs.Memory.{writtenBack, FrameIn, sizesMatch};
-use order::PLACES;
+ghost use Rattle.pages.specs.Memory.{sizesMatch};
 
 // So many bytes are copied by way of an array: a page has no more.
 const BETWEEN: usize = 4096;
@@ -84,27 +83,6 @@ pub fn fetch(frames: &mut [u8], frame: usize, store: &[u8], page: usize, size: u
     copy_page(&mut frames[at..end], &store[from..to]);
 }
 
-// A changed page leaves its frame and another comes: the frame's stretch is written back first, or the change would be lost.
-pub fn replace(
-    frames: &mut [u8],
-    frame: usize,
-    store: &mut [u8],
-    old: usize,
-    new: usize,
-    size: usize,
-)
-    requires { ⌜ InPages size frame (length (now frames)) ⌝ }
-    requires { ⌜ InPages size old (length (now store)) ⌝ }
-    requires { ⌜ InPages size new (length (now store)) ⌝ }
-    ensures { λ _. ⌜ now (store .exit) ≡ withPage size old (pageOf size frame (now (frames .entry))) (now (store .entry)) ⌝ }
-    ensures { λ _. ⌜ now (frames .exit) ≡ withPage size frame (pageOf size new (now (store .exit))) (now (frames .entry)) ⌝ }
-{
-    let at = frame * size;
-    let end = at + size;
-    write_back(store, old, &frames[at..end], size);
-    fetch(frames, frame, store, new, size);
-}
-
 // The stretch of a frame from its byte `start` on becomes `bytes`.
 pub fn overlay(frames: &mut [u8], frame: usize, start: usize, bytes: &[u8], size: usize)
     requires { ⌜ InPages size frame (length (now frames)) ⌝ }
@@ -125,30 +103,6 @@ pub fn copy_out(out: &mut [u8], frames: &[u8], frame: usize, size: usize)
     let at = frame * size;
     let end = at + size;
     copy_page(out, &frames[at..end]);
-}
-
-// The first n frames of a list are written to their pages, the last of them first.
-pub fn write_back_all(
-    store: &mut [u8],
-    frames: &[u8],
-    list: [u8; PLACES],
-    n: usize,
-    page: [u16; PLACES],
-    size: usize,
-)
-    requires { ⌜ n ≤ places ⌝ }
-    requires { ⌜ ((k : ℕ) → k < n → FrameIn size page (length (now frames)) (length (now store)) (getD list k 0)) ⌝ }
-    ensures { λ _. ⌜ now (store .exit) ≡ writtenBack size page (now (frames .entry)) (take n list) (now (store .entry)) ⌝ }
-{
-    let mut i = n;
-    while 0 < i {
-        i -= 1;
-        let f = list[i] as usize;
-        let q = page[f] as usize;
-        let at = f * size;
-        let end = at + size;
-        write_back(store, q, &frames[at..end], size);
-    }
 }
 
 // The bytes of so many frames or pages.

@@ -91,7 +91,7 @@ pub fn bring(
                 pages::fetch(frames, frame, store, page, size);
             }
             Victim::Dirty(old) => {
-                pages::replace(frames, frame, store, old, page, size);
+                dirty::replace(frames, frame, store, old, page, size);
             }
         },
     }

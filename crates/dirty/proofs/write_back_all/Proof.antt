@@ -1,15 +1,15 @@
--- `pages::write_back_all` meets its contract. The loop's invariant: the frames from place i of the list on are in the store, which is as
+-- `dirty::write_back_all` meets its contract. The loop's invariant: the frames from place i of the list on are in the store, which is as
 -- long as it was; a turn writes one frame more, whose part of `frames` is `pageOf`. The measure is i. Assumes nothing.
 use mathlib.Core.Path.{_≡_, refl, sym}
 use Prim.Native.Nat.{_≤_, _-_}
 use native.Mathlib.Omega.{arith}
 use lib.ListN.{length, getD, take, drop}
 use borrow.Author.Needs.{needs}
 use Rattle.pages.specs.Memory.{writtenBack, FrameIn}
 use Rattle.pages.proofs.Pages.{page-is}
 use Rattle.pages.proofs.Memory.{writtenBack-none, writtenBack-more}
-use Rattle.pages.proofs.write_back_all.Statement.{statement}
-use Rattle.pages.proofs.write_back_all.Tie as tie
+use Rattle.dirty.proofs.write_back_all.Statement.{statement}
+use Rattle.dirty.proofs.write_back_all.Tie as tie
 
 abbrev Inv-loop : tie.InvT-loop
 Inv-loop store₀ frames n size list page i₀ store i =

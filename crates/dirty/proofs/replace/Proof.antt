@@ -1,9 +1,9 @@
--- `pages::replace` meets its contract. What `write_back` is handed is a part of `frames`, and that part is `pageOf`. The rest is what `fetch` promises.
+-- `dirty::replace` meets its contract. What `write_back` is handed is a part of `frames`, and that part is `pageOf`. The rest is what `fetch` promises.
 -- Assumes nothing.
 use borrow.Author.Needs.{needs}
 use Rattle.pages.proofs.Pages.{page-is}
-use Rattle.pages.proofs.replace.Statement.{statement}
-use Rattle.pages.proofs.replace.Tie as tie
+use Rattle.dirty.proofs.replace.Statement.{statement}
+use Rattle.dirty.proofs.replace.Tie as tie
 
 returns : tie.Need-returns
 returns c = search (needs, ← page-is)
