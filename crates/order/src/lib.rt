@@ -2,12 +2,11 @@
 // A list is changed where it stands, in the places that have to change and no others; what that means on plain lists is said by the laws on `InPlaces`.
 ghost use mathlib.Core.Path.{_≡_};
 ghost use mathlib.Core.List.{_∷_};
-ghost use Prim.Native.Nat.{ℕ, _+_, _-_, _≤_, _<_};
-ghost use lib.ListN.{length, getD, set, take, drop};
+ghost use Prim.Native.Nat.{ℕ, _≤_, _<_};
+ghost use lib.ListN.{length, getD, set, take};
 ghost use Rattle.order.specs.Lists.{removeAt, insertAt, moveToFront, downFrom};
 ghost use Rattle.order.specs.Places.{places, InPlaces};
 ghost use Rattle.order.specs.Find.{findFrom, hasBefore};
-ghost use Rattle.order.specs.Merge.{merged, takesFirst};
 
 // How many frames a list can hold.
 pub const PLACES: usize = 64;
@@ -98,60 +97,6 @@ pub fn put_tail(list: &mut [u8; PLACES], n: usize, x: u8)
     ensures { λ _. ⌜ now (list .exit) ≡ set (now (list .entry)) n x ⌝ }
 {
     list[n] = x;
-}
-
-// Whether a merge takes the next frame from the first list, at place i of m, and not from the second, at place j of n: the later one goes first.
-fn takes_first(
-    first: &[u8; PLACES],
-    i: usize,
-    m: usize,
-    second: &[u8; PLACES],
-    j: usize,
-    n: usize,
-    reference: &[u32; PLACES],
-) -> bool
-    requires { ⌜ (m ≤ places) × (n ≤ places) × (length (now first) ≡ places) × (length (now second) ≡ places) ⌝ }
-    requires { ⌜ ((k : ℕ) → k < m → getD (now first) k 0 < places) ⌝ }
-    requires { ⌜ ((k : ℕ) → k < n → getD (now second) k 0 < places) ⌝ }
-    ensures { λ r. ⌜ r ≡ takesFirst (now (reference .entry)) (drop i (take m (now (first .entry)))) (drop j (take n (now (second .entry)))) ⌝ }
-{
-    if m <= i {
-        return false;
-    }
-    if n <= j {
-        return true;
-    }
-    let f = first[i] as usize;
-    let g = second[j] as usize;
-    reference[g] < reference[f]
-}
-
-// The frames of a list of m and of one of n, the latest first; `reference` has the number of each frame.
-pub fn merge(
-    first: [u8; PLACES],
-    m: usize,
-    second: [u8; PLACES],
-    n: usize,
-    reference: [u32; PLACES],
-) -> [u8; PLACES]
-    requires { ⌜ m + n ≤ places ⌝ }
-    requires { ⌜ ((k : ℕ) → k < m → getD first k 0 < places) ⌝ }
-    requires { ⌜ ((k : ℕ) → k < n → getD second k 0 < places) ⌝ }
-    ensures { λ r. ⌜ InPlaces r (m + n) (merged reference (take m first) (take n second)) ⌝ }
-{
-    let mut r = [0u8; PLACES];
-    let mut of_first = 0;
-    let mut of_second = 0;
-    while of_first + of_second < m + n {
-        if takes_first(&first, of_first, m, &second, of_second, n, &reference) {
-            r[of_first + of_second] = first[of_first];
-            of_first += 1;
-        } else {
-            r[of_first + of_second] = second[of_second];
-            of_second += 1;
-        }
-    }
-    r
 }
 
 // The frames n - 1, .., 1, 0.

@@ -121,7 +121,7 @@ pub fn flush_lists(pool: Pool) -> Pool
     let cn = pool.clean_len;
     let dn = pool.dirty_len;
     let reference = pool.reference;
-    let all = order::merge(dirty, dn, clean, cn, reference);
+    let all = merging::merge(dirty, dn, clean, cn, reference);
     let none = [0u8; PLACES];
     let writes = Writes(pool.writes.0 + dn as u64);
     let mut next = pool;

@@ -1,14 +1,14 @@
--- `order::takes_first` meets its contract: where the first list is through, the second gives the next frame, and the reverse; else the later of the two goes
+-- `merging::takes_first` meets its contract: where the first list is through, the second gives the next frame, and the reverse; else the later of the two goes
 -- first, whose number is larger. Assumes nothing.
 use mathlib.Core.Path.{sym}
 use Prim.Native.Nat.{_<_}
 use native.Mathlib.Omega.{arith}
 use lib.ListN.{getD}
 use borrow.Author.Needs.{needs}
 use Rattle.order.specs.Places.{places}
 use Rattle.order.proofs.Merged.{takes-none, takes-only, takes-later}
-use Rattle.order.proofs.takes_first.Statement.{statement}
-use Rattle.order.proofs.takes_first.Tie as tie
+use Rattle.merging.proofs.takes_first.Statement.{statement}
+use Rattle.merging.proofs.takes_first.Tie as tie
 
 -- what stands at the two places is a frame
 first-frame : (c : tie.Else2) → let s = c .before .before in getD (s .args .first .now) (s .args .i) 0 < places

@@ -1,13 +1,13 @@
--- `order::merge` meets its contract. The loop's invariant: the first i + j places hold as many frames of the merge, and what is left of it is the merge of
+-- `merging::merge` meets its contract. The loop's invariant: the first i + j places hold as many frames of the merge, and what is left of it is the merge of
 -- what is left of both lists. The measure is how many frames are left. Assumes nothing.
 use mathlib.Core.Path.{refl, sym, _∙_}
 use Prim.Native.Nat.{_+_, _-_}
 use native.Mathlib.Omega.{arith}
 use borrow.Author.Needs.{needs}
 use Rattle.order.proofs.Places.{none-in-places}
 use Rattle.order.proofs.Merged.{Merging, merging-first, merging-second, merging-end}
-use Rattle.order.proofs.merge.Statement.{statement}
-use Rattle.order.proofs.merge.Tie as tie
+use Rattle.merging.proofs.merge.Statement.{statement}
+use Rattle.merging.proofs.merge.Tie as tie
 
 abbrev Inv-loop : tie.InvT-loop
 Inv-loop m n first second reference r₀ i₀ j₀ r i j = Merging reference first m second n r i j
