@@ -1,6 +1,6 @@
 /* The best C against the twin: the same random calls, some of them to be refused, must give the same answers, pools and bytes, and pools changed in a place or two
-   the same verdict and the same drop. What both have from calls.h, the numbers, the merge of a flush and the drop, is held against the law. Prints what was compared;
-   the first difference ends it. */
+   the same verdict and the same drop. What both share (parts.h, calls.h), the numbers, the merge of a flush, the drop and the step of the target, is held against
+   the law. Prints what was compared; the first difference ends it. */
 #include "compare.h"
 #include "random.h"
 #include <stdio.h>

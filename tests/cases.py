@@ -186,6 +186,9 @@ def rounded():
         size = dict(b=many + 1, N=many + 1)
         yield 'half-read-%s-nearest' % side, trace(reads(0, many) + DIRTY[many:many + 1] + reads(0, 1), r=less, w=more, **size)
         yield 'half-write-%s-nearest' % side, trace(reads(0, 1) + DIRTY[1:many + 1] + reads(0, 1) + DIRTY[1:2], r=more, w=less, **size)
+    # P8 from opening: 43,691 units for two dirty pages and 21,845 for one make the target 65,536, with a page in either list. Then a hit of each kind
+    for what, hit in (('takes', 'W1'), ('adds', 'R0')):
+        yield 'p8-' + what, trace(told('R0 W1 W2 R0 D2 R0 ' + hit), b=3, r=1, w=2)
     # rounded, then held: 43,690 and 2/3 units go as 43,691. Record 9 makes this step from just so far below the top, record 12 from a unit nearer to it
     yield 'step-near-the-top', trace(told('R0 W1 R0 R0 R0 W2 R0 R0 R0 W1 W1 R0'), b=3, r=1, w=2)
     # record 15 takes as much from 43,691 and record 18 from 43,690. Always rounded down, either trace would end 3 units off

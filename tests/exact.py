@@ -78,8 +78,8 @@ STEPS = [  # costs, whether the hit is a write, the target before and after it
 
 
 def nearer():
-    """Whether opened costs make a step that is nearer to a half. In m-ths it is at least 1/2m off, if it is no half, so m must be larger than there. What a write hit takes, a
-    read hit adds with costs and lists changed over."""
+    """Whether opened costs make a step nearer to a half. A step in m-ths that is no half is at least 1/2m off it, so only m above NEAREST_PARTS need be tried.
+    What a write hit takes, a read hit adds with costs and lists exchanged."""
     return any(abs(Fraction(UNIT * r * d, whole * c) % 1 - Fraction(1, 2)) < Fraction(1, 2 * NEAREST_PARTS)
                for c in range(1, 64) for whole in range(NEAREST_PARTS // c + 1, 2001) for r in range(whole - 1000, 1001) for d in range(1, 65 - c))
 

@@ -46,5 +46,6 @@ module _ (p : Pool) (s : Sound p) where
       (page-pad p s) (reference-pad p s) refl refl (sym (add-zero (p .reads .0))) refl
 
 -- what is done where the page is, is the drop of it
-pub drop-is : (p : Pool) (q : ℕ) (x : Place) → x ≡ locate (stateOf p) q → {y : Place} → x ≡ y → poolOf (droppedAt (stateOf p) y) ≡ poolOf (dropped (stateOf p) q)
+pub drop-is : (p : Pool) (q : ℕ) (x : Place) → x ≡ locate (stateOf p) q → {y : Place} → x ≡ y
+    → poolOf (droppedAt (stateOf p) y) ≡ poolOf (dropped (stateOf p) q)
 drop-is p q x e b = λ i. poolOf (droppedAt (stateOf p) ((sym b ∙ e) i))

@@ -1,4 +1,4 @@
--- The bytes of a request: what `pages` did to them is what its answer says. Assumes nothing.
+-- The bytes of a request: what `pages` and `dirty` did to them is what its answer says. Assumes nothing.
 use mathlib.Core.Path.{_≡_, sym, ap, _∙_}
 use mathlib.Core.List.{List}
 use Prim.Native.Nat.{ℕ, _*_}
