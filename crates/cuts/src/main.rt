@@ -56,13 +56,8 @@ fn drop(pool: Pool, page: usize, frames: &[u8], store: &mut [u8]) -> Pool {
 fn tell_counts(pool: Pool) {
     word(b"target");
     number(pool.target);
-    word(b" physical reads");
-    number(pool.reads.0);
-    word(b" writes");
-    number(pool.writes.0);
-    word(b" served");
-    number(pool.served);
-    end();
+    word(b" ");
+    tell::counts(pool.reads.0, pool.writes.0, pool.served);
 }
 
 // ---- calls by a script: each is a letter and a digit, its page

@@ -103,13 +103,7 @@ fn flush(pool: Pool, frames: &[u8], store: &mut [u8]) -> Pool {
 }
 
 fn tell_counts(pool: Pool) {
-    word(b"physical reads");
-    number(pool.reads.0);
-    word(b" writes");
-    number(pool.writes.0);
-    word(b" served");
-    number(pool.served);
-    end();
+    tell::counts(pool.reads.0, pool.writes.0, pool.served);
 }
 
 // One frame: W 0, R 1 makes two reads and one write.

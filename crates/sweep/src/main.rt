@@ -192,26 +192,27 @@ fn tell_sequences(name: &[u8], letters: usize, length: usize, count: usize, r: u
     tell_digest(tally.digest);
 }
 
-// Reads, writes and flushes, seven letters: lengths 1 to 6. With one letter more there are seven times as many sequences.
-fn small(r: u64, w: u64) {
-    let mut count = 7;
+// Lengths from 1 on, up to `most` sequences: with one letter more there are `letters` times as many.
+fn lengths(name: &[u8], letters: usize, most: usize, r: u64, w: u64)
+    requires { ⌜ (2 ≤ letters) × (letters ≤ 10) × (most ≤ 117649) ⌝ }
+{
+    let mut count = letters;
     let mut length = 1;
-    while count <= 117649 {
-        tell_sequences(b"small", 7, length, count, r, w);
-        count *= 7;
+    while count <= most {
+        tell_sequences(name, letters, length, count, r, w);
+        count *= letters;
         length += 1;
     }
 }
 
+// Reads, writes and flushes, seven letters: lengths 1 to 6.
+fn small(r: u64, w: u64) {
+    lengths(b"small", 7, 117649, r, w);
+}
+
 // Drops among them, ten letters: lengths 1 to 5.
 fn drops(r: u64, w: u64) {
-    let mut count = 10;
-    let mut length = 1;
-    while count <= 100000 {
-        tell_sequences(b"drops", 10, length, count, r, w);
-        count *= 10;
-        length += 1;
-    }
+    lengths(b"drops", 10, 100000, r, w);
 }
 
 // ---- runs by chance

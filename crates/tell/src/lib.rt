@@ -102,3 +102,14 @@ pub fn drop(answer: Dropping) {
         Dropping::Dropped => word(b" dropped"),
     }
 }
+
+// What was counted, to the end of the line.
+pub fn counts(reads: u64, writes: u64, served: u64) {
+    word(b"physical reads");
+    number(reads);
+    word(b" writes");
+    number(writes);
+    word(b" served");
+    number(served);
+    end();
+}
