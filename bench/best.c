@@ -5,7 +5,8 @@
      - frames have no marks: numbers that fall down C and D merged leave no frame there twice. Where D or C is empty, they are compared four at a time;
      - pages are walked in the order of their frames. Up to 1,024 pages each has a mark of its own; beyond, remainders by 2,048 have, and a mark that is met is looked at
        exactly;
-     - a page is looked up by one scan over the pages (which frame) and one over a list (which place). */
+     - a page is looked up by one scan over the pages (which frame) and one over a list (which place);
+     - a window is walked eight times at once. */
 #include "parts.h"
 #include <emmintrin.h>
 
@@ -236,11 +237,12 @@ static int sound(const pool *p)
     return p->empty_len ? empty_right(p) && held_apart(p) : apart(p, p->page, p->frames);
 }
 
-static void hit_clean(pool *p, u64 i, u8 f, int write)
+static void hit_clean(pool *p, const kept *k, u64 i, u8 f, int write)
 {
     u64 c = p->clean_len, d = p->dirty_len;
     if (!write) {
-        raise(p, p->read_cost * d, (p->read_cost + p->write_cost) * c);
+        costs now = in_force(p, k);
+        raise(p, now.read * d, (now.read + now.write) * c);
         front(p->clean, i, f);
         return;
     }
@@ -249,10 +251,12 @@ static void hit_clean(pool *p, u64 i, u8 f, int write)
     p->clean_len--, p->dirty_len++;
 }
 
-static void hit_dirty(pool *p, u64 i, u8 f, int write)
+static void hit_dirty(pool *p, const kept *k, u64 i, u8 f, int write)
 {
-    if (write)
-        lower(p, p->write_cost * p->clean_len, (p->read_cost + p->write_cost) * p->dirty_len);
+    if (write) {
+        costs now = in_force(p, k);
+        lower(p, now.write * p->clean_len, (now.read + now.write) * p->dirty_len);
+    }
     front(p->dirty, i, f);
 }
 
@@ -267,7 +271,7 @@ PART place find(pool *p, u64 page)
     return (place){p->dirty, &p->dirty_len, (u64)__builtin_ctzll(places(p->dirty, p->dirty_len, f))};
 }
 
-static u64 bring(served *s, u64 page, int write, u8 *frames, u8 *store)
+static u64 bring(served *s, const kept *k, u64 page, int write, u8 *frames, u8 *store)
 {
     pool *p = &s->pool;
     p->served++;
@@ -277,10 +281,42 @@ static u64 bring(served *s, u64 page, int write, u8 *frames, u8 *store)
     u8 f = at.list[at.at];
     s->hit = 1;
     if (at.list == p->clean)
-        hit_clean(p, at.at, f, write);
+        hit_clean(p, k, at.at, f, write);
     else
-        hit_dirty(p, at.at, f, write);
+        hit_dirty(p, k, at.at, f, write);
     return f;
+}
+
+/* Whether the places from i to n hold 0. */
+PART int rest_right(const u16 *times, u64 i, u64 n)
+{
+    v bad = _mm_setzero_si128();
+    u32 wrong = 0;
+    for (; n - i >= 8; i += 8)
+        bad = _mm_or_si128(bad, load(times + i));
+    for (; i < n; i++)
+        wrong |= times[i];
+    return none(bad) && !wrong;
+}
+
+/* Whether n places hold what is kept of them. Times are taken as signed ones, 32,768 less: the least of them tells of a 0, and the product with 1 adds them in pairs. */
+PART int window_right(const window *w, const u16 *times, u64 n)
+{
+    v half = _mm_set1_epi16(-32768), one = _mm_set1_epi16(1), least = _mm_set1_epi16(32767), sums = _mm_setzero_si128();
+    u64 i = 0, fill = w->fill, whole = fill / 8 * 8;
+#pragma GCC unroll 16
+    for (; i < whole; i += 8) {
+        v x = _mm_xor_si128(load(times + i), half);
+        least = _mm_min_epi16(least, x);
+        sums = _mm_add_epi32(sums, _mm_madd_epi16(x, one));
+    }
+    sums = _mm_add_epi32(sums, _mm_shuffle_epi32(sums, 0x4e));
+    sums = _mm_add_epi32(sums, _mm_shuffle_epi32(sums, 1));
+    u32 sum = (u32)_mm_cvtsi128_si32(sums) + 32768 * (u32)whole;
+    int zeros = _mm_movemask_epi8(_mm_cmpeq_epi16(least, half));
+    for (; i < fill; i++)
+        sum += times[i], zeros |= times[i] == 0;
+    return sum == w->sum && !zeros && (fill == n || rest_right(times, fill, n));
 }
 
 static const pool *tested(const pool *handed, const served *back)
@@ -305,4 +341,3 @@ static u64 total_at(pool *p, u64 target, u64 *cost)
 
 #define HANDED(p) (&(p))
 #include "calls.h"
-#include "record.h"

@@ -3,7 +3,7 @@
    Loads: trace (80 % of reads go to hot pages), a number (read hits at this place of C, or at its last), spread (read hits, uniform), refused (reads of page N),
    clean, dirty (faults), flush (b writes and a flush each), drop (of absent pages), cut and a number (a drop at this place of C, or at its last, and a read that takes
    the freed frame), lose and a number (the same in D, with a write), sound (totals), mixed (totals where C and D take turns down the reference numbers), and those of
-   the recorder, in records.c.
+   the recorder, in records.c, or of the reports, in measured.c.
    Another SEED than 0 draws other pages. */
 #include "bench.h"
 #include "random.h"
@@ -30,7 +30,7 @@ int main(int argc, char **argv)
     int served = argv[7][0] != '0';
     const char *load = argv[1];
     u64 b = strtoull(argv[2], 0, 10), P = strtoull(argv[3], 0, 10), N = strtoull(argv[4], 0, 10), n = strtoull(argv[5], 0, 10), totals = 0;
-    if (record_load(load, b, P, N, n, served))
+    if (load_apart(load, b, P, N, n, served))
         return 0;
     u64 room = (n + 2) * (b + 2) + 4 * b;
     ops = calloc(room, 1), pages = calloc(room, 2);

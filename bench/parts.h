@@ -27,7 +27,7 @@ static pool opened(u64 b, u64 size, u64 pages, u64 r, u64 w)
     pool p;
     memset(&p, 0, sizeof p);
     if (r == 0 && w == 0)
-        r = 1, w = 4;
+        r = 1, w = 10;
     if (!in_limits(b, size, pages, r, w))
         return p;
     p.frames = b, p.page_bytes = size, p.pages = pages, p.read_cost = r, p.write_cost = w, p.empty_len = b;
@@ -68,6 +68,30 @@ PART u8 latest(const pool *p, u64 *c, u64 *d)
 {
     int clean = *d == p->dirty_len || (*c < p->clean_len && p->reference[p->clean[*c]] > p->reference[p->dirty[*d]]);
     return clean ? p->clean[(*c)++] : p->dirty[(*d)++];
+}
+
+/* Whether this may be kept of a window of n places. */
+PART int in_range(const window *w, u64 n)
+{
+    return w->fill <= n && w->sum >= w->fill && w->sum <= w->fill * MOST_TIME;
+}
+
+/* As much as a call sees that is lent no window. */
+PART int kept_right(const kept *k)
+{
+    return k->n >= 1 && k->n <= MOST_TIMES && in_range(&k->reads, k->n) && in_range(&k->writes, k->n);
+}
+
+typedef struct {
+    u64 read, write;
+} costs;
+
+/* Those of the drive as it was measured, once both windows are full; till then, and where none are kept, those that the pool was opened with. */
+PART costs in_force(const pool *p, const kept *k)
+{
+    if (k && k->reads.fill == k->n && k->writes.fill == k->n)
+        return (costs){k->reads.sum, k->writes.sum};
+    return (costs){p->read_cost, p->write_cost};
 }
 
 /* A step of above over below of a page, in units: to the nearest, a half upwards. */

@@ -1,9 +1,11 @@
-/* The pool in C, its limits, the numbers of refusals and what a call hands back: for the twin, for the best C and for their comparison. */
+/* The pool in C, its limits, what is kept of measured times, the numbers of refusals and what a call hands back: for the twin, for the best C and for their
+   comparison. */
 #pragma once
 #include "bench.h"
 
 enum { PLACES = 64, MOST_PAGES = 65536, MOST_COST = 1000, MOST_SERVED = 1000000000, ONE = 65536 /* frame, in the target's unit */ };
-enum { UNSOUND = 2, WRONG_LENGTHS, NO_SUCH_PAGE, UNFIT, NONE_LEFT }; /* the scope's refusals of a call */
+enum { MOST_TIMES = 32768 /* in a window */, MOST_TIME = 65535 };
+enum { UNSOUND = 2, WRONG_LENGTHS, NO_SUCH_PAGE, UNFIT, NONE_LEFT, ZERO_TIME = 12, BROKEN_WINDOWS }; /* the scope's refusals of a call */
 
 typedef struct {
     u64 frames, page_bytes, pages, read_cost, write_cost;
@@ -23,3 +25,19 @@ typedef struct {
     int refused, hit, victim;
     u64 old;
 } served;
+
+/* What is kept of a window: the places filled, the next one to be, the sum of its times. */
+typedef struct {
+    u64 fill, next, sum;
+} window;
+
+/* What is kept of both windows, of n places each. */
+typedef struct {
+    u64 n;
+    window reads, writes;
+} kept;
+
+typedef struct {
+    kept kept;
+    int refused;
+} timed;

@@ -6,3 +6,8 @@ static u64 next(void)
     seed ^= seed << 13, seed ^= seed >> 7, seed ^= seed << 17;
     return seed >> 11;
 }
+
+static inline u64 below(u64 n)
+{
+    return next() % n;
+}

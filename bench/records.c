@@ -76,7 +76,7 @@ static void wrong(void)
     printf("%d runs (%llu end served, %llu refused 1, %llu 8, %llu 11; sum %llx)\n", RUNS, served, limits, bad, full, all);
 }
 
-int record_load(const char *load, u64 b, u64 P, u64 N, u64 n, int served)
+int load_apart(const char *load, u64 b, u64 P, u64 N, u64 n, int served)
 {
     if (!strcmp(load, "begin"))
         alike(BEGIN, 0, b, P, N, n, served);

@@ -1,4 +1,4 @@
-/* Prints the bytes of stack that a run of every call takes at its deepest: the run stands on a painted stack of its own, and the paint left is counted. */
+/* stack WORDS: prints the bytes of stack that a run of every call takes at its deepest: the run stands on a painted stack of its own, and the paint left is counted. */
 #include "bench.h"
 #include <stdio.h>
 #include <stdlib.h>
@@ -35,11 +35,13 @@ static u64 depth(void (*run)(void))
     return ROOM - left;
 }
 
-int main(void)
+int main(int argc, char **argv)
 {
+    if (argc != 2)
+        return 2;
     for (u64 i = 0; i < REQUESTS; i++)
         ops[i] = i % 97 == 96 ? 2 : i % 11 == 10 ? 3 : i * i % 3 % 2, pages[i] = i * 7 % 131 + i % 5;
     u64 empty = depth(nothing), full = depth(serve);
-    printf("stack of a run of every call: %llu bytes\n", full - empty);
+    printf("stack of a run of %s: %llu bytes\n", argv[1], full - empty);
     return answer == 0;
 }

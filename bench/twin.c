@@ -74,10 +74,12 @@ PART place find(pool *p, u64 page)
     return (place){0, 0, 0};
 }
 
-static u64 bring(served *s, u64 page, int write, u8 *frames, u8 *store)
+static u64 bring(served *s, const kept *k, u64 page, int write, u8 *frames, u8 *store)
 {
     pool *p = &s->pool;
-    u64 size = p->page_bytes, c = p->clean_len, d = p->dirty_len, r = p->read_cost, w = p->write_cost;
+    u64 size = p->page_bytes, c = p->clean_len, d = p->dirty_len;
+    costs now = in_force(p, k);
+    u64 r = now.read, w = now.write;
     p->served++;
     place at = find(p, page);
     if (!at.list)
@@ -97,6 +99,22 @@ static u64 bring(served *s, u64 page, int write, u8 *frames, u8 *store)
         front(p->clean, at.at, f);
     }
     return f;
+}
+
+/* Whether n places hold what is kept of them: times where they are filled, 0 behind, and that sum. In a function of its own, gcc keeps their address in a register;
+   programs without windows do not use it. */
+__attribute__((noinline, unused)) static int window_right(const window *w, const u16 *times, u64 n)
+{
+    u64 sum = 0;
+    for (u64 i = 0; i < w->fill; i++) {
+        if (times[i] == 0)
+            return 0;
+        sum += times[i];
+    }
+    for (u64 i = w->fill; i < n; i++)
+        if (times[i])
+            return 0;
+    return sum == w->sum;
 }
 
 static const pool *tested(const pool *handed, const served *back)
@@ -121,4 +139,3 @@ static u64 total_at(pool p, u64 target, u64 *cost)
 
 #define HANDED(p) (p)
 #include "calls.h"
-#include "record.h"

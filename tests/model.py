@@ -12,6 +12,7 @@ import sys
 
 UNIT = 65536
 MOST_SERVED = 1000000000
+MOST_TIMES, MOST_TIME = 32768, 65535  # so many in a window, and the longest
 USUAL_DRIVE = 1, 10     # what both costs 0 mean to open
 RECORDED_DRIVE = 1, 4   # what they mean to the trace reader: stored files were recorded on it
 
@@ -83,9 +84,11 @@ class Pool:
         if len(frames) != self.b * self.P or len(store) != self.N * self.P:
             raise Refused(3)
 
-    def examine(self, frames, store, page, fit):
+    def examine(self, frames, store, page, fit, kept=None):
         if not self.sound():
             raise Refused(2)
+        if kept is not None and any(kept.wrong()):
+            raise Refused(13)
         self.sizes(frames, store)
         if page >= self.N:
             raise Refused(4)
@@ -96,9 +99,9 @@ class Pool:
 
     # ---- one request
 
-    def bring(self, page, writes, frames, store):
-        """Algorithm 1: the frame that then has the page, and (result, victim page or None, pages written)."""
-        P, r, w = self.P, self.r, self.w
+    def bring(self, page, writes, frames, store, costs):
+        """Algorithm 1 with the costs in force: the frame that then has the page, and (result, victim page or None, pages written)."""
+        P, (r, w) = self.P, costs
         c, d = len(self.C), len(self.D)
         for f in self.C:
             if self.page[f] == page:
@@ -135,22 +138,23 @@ class Pool:
         (self.D if writes else self.C).insert(0, f)
         return f, ('fault', victim, written)
 
-    def serve(self, page, writes, frames, store):
+    def serve(self, page, writes, frames, store, kept):
         """One served call more: its number is that of the frame which then has the page."""
-        f, answer = self.bring(page, writes, frames, store)
+        opened = self.r, self.w
+        f, answer = self.bring(page, writes, frames, store, opened if kept is None else kept.in_force(opened))
         self.served += 1
         self.reference[f] = self.served
         return f, answer
 
-    def read(self, page, frames, store, out):
-        self.examine(frames, store, page, len(out) == self.P)
-        f, answer = self.serve(page, False, frames, store)
+    def read(self, page, frames, store, out, kept=None):
+        self.examine(frames, store, page, len(out) == self.P, kept)
+        f, answer = self.serve(page, False, frames, store, kept)
         out[:] = frames[f * self.P:f * self.P + self.P]
         return answer
 
-    def write(self, page, start, data, frames, store):
-        self.examine(frames, store, page, len(data) > 0 and start + len(data) <= self.P)
-        f, answer = self.serve(page, True, frames, store)
+    def write(self, page, start, data, frames, store, kept=None):
+        self.examine(frames, store, page, len(data) > 0 and start + len(data) <= self.P, kept)
+        f, answer = self.serve(page, True, frames, store, kept)
         at = f * self.P + start
         frames[at:at + len(data)] = data
         return answer
@@ -186,9 +190,103 @@ class Pool:
         self.served += 1
 
     def total(self):
+        """By the opened costs, whatever was measured."""
         if not self.sound():
             raise Refused(2)
         return self.nR * self.r + self.nW * self.w
+
+
+# ---- times measured on the drive
+
+
+class Window:
+    """What is kept of a window of times: how many of its places are filled, which one is next, and the sum."""
+
+    def __init__(self, fill=0, next=0, sum=0):
+        self.fill, self.next, self.sum = fill, next, sum
+
+    def put(self, time, times):
+        """At the next place, in place of what stood there. "The next place equals the fill, and once the window is full goes round below n, from 0"."""
+        self.sum += time - times[self.next]
+        times[self.next] = time
+        self.fill = min(self.fill + 1, len(times))
+        self.next = (self.next + 1) % len(times)
+
+
+class Kept:
+    """What is kept of the two windows of n times, of physical reads and of physical writes. The windows themselves are lent to each report, as lists."""
+
+    def __init__(self, n, reads, writes):
+        self.n, self.reads, self.writes = n, reads, writes
+
+    def copied(self):
+        return Kept(self.n, copy.copy(self.reads), copy.copy(self.writes))
+
+    def windows(self):
+        return ('reads', self.reads), ('writes', self.writes)
+
+    # ---- what is wrong, 13: each condition by itself
+
+    def out_of_range(self):
+        if not 1 <= self.n <= MOST_TIMES:
+            yield 'n'
+        for name, window in self.windows():
+            if window.fill > self.n:
+                yield 'fill of ' + name
+
+    def wrong(self):
+        """In a serving call, which "sees n, fills and sums alone"."""
+        yield from self.out_of_range()
+        for name, window in self.windows():
+            if not window.fill <= window.sum <= window.fill * MOST_TIME:
+                yield 'sum of ' + name
+
+    def wrong_with(self, reads, writes):
+        """In a report, with the windows."""
+        if not len(reads) == len(writes) == self.n:
+            yield 'lengths'
+        yield from self.out_of_range()
+        for (name, window), times in zip(self.windows(), (reads, writes)):
+            if not (window.next == window.fill if window.fill < self.n else window.next < self.n):
+                yield 'next place of ' + name
+            if 0 in times[:window.fill]:
+                yield '0 in a filled place of ' + name
+            if any(times[window.fill:]):
+                yield 'no 0 in an unfilled place of ' + name
+            if window.sum != sum(times):
+                yield 'sum of ' + name
+
+    # ---- reports
+
+    def examine(self, time, reads, writes):
+        if any(self.wrong_with(reads, writes)):
+            raise Refused(13)
+        if time == 0:
+            raise Refused(12)
+
+    def report_read(self, time, reads, writes):
+        self.examine(time, reads, writes)
+        self.reads.put(time, reads)
+
+    def report_write(self, time, reads, writes):
+        self.examine(time, reads, writes)
+        self.writes.put(time, writes)
+
+    # ---- costs
+
+    def in_force(self, opened):
+        """The costs for the step: "once both windows are full .. the sum of the read window as r and that of the write window as w; until then, the opened"."""
+        full = self.reads.fill == self.n and self.writes.fill == self.n
+        return (self.reads.sum, self.writes.sum) if full else opened
+
+
+def start(n, reads, writes):
+    """What is kept of two windows in which nothing is filled yet; the places of both become 0."""
+    if not 1 <= n <= MOST_TIMES or not len(reads) == len(writes) == n:
+        raise Refused(13)
+    for place in range(n):
+        reads[place] = writes[place] = 0
+    return Kept(n, Window(), Window())
 
 
 # ---- trace files

@@ -1,23 +1,24 @@
 #!/usr/bin/env python3
 """What the program `sweep` must print, from the plain model: digests of every short sequence of calls on a small pool, of random runs at every number of
-frames, and of calls on pools in which one thing was changed. crates/sweep/stdout holds it. Standard library only.
+frames, of calls on pools in which one thing was changed, and of calls that take kept numbers of time windows. crates/sweep/stdout holds it. Standard library
+only.
 
-  sweep.py            prints lines `small R W LENGTH DIGEST`, `drops R W LENGTH DIGEST`, `random B DIGEST` and `broken B DIGEST`, and after the runs how often
-                      each answer came
+  sweep.py            prints lines `small R W LENGTH DIGEST`, `drops R W LENGTH DIGEST`, `random B DIGEST`, `broken B DIGEST` and `timed B DIGEST`, and after
+                      the runs how often each answer came
 """
 import struct
 import sys
 import zlib
 
-from model import Pool, Refused, allowed
+from model import MOST_SERVED, MOST_TIME, MOST_TIMES, UNIT, Kept, Pool, Refused, Window, allowed
 
 LISTS = ('empty', 'clean', 'dirty')
 NUMBERS = ('b', 'P', 'N', 'r', 'w', 'empty_len', 'clean_len', 'dirty_len', 'target', 'served', 'nR', 'nW')
 MOST = 2 ** 64 - 1
 PACKED = struct.Struct('<12Q64s64s64s64H64I')
 
-# An answer's kind: a refusal's is the scope's number; no call on a pool is refused 11.
-HIT, FAULT, FLUSH, TOTAL, DROP = 11, {None: 12, 'clean': 13, 'dirty': 14}, 15, 16, 17
+# An answer's kind: a refusal's is the scope's number, 1 to 19.
+HIT, FAULT, FLUSH, TOTAL, DROP = 20, {None: 21, 'clean': 22, 'dirty': 23}, 24, 25, 26
 
 
 # ---- a pool as numbers and places, sound or not
@@ -85,13 +86,13 @@ def filling(n, done={}):
 
 
 def make(pool, call, memory):
-    """Makes the call on the model's pool, and gives its answer as (kind, value)."""
+    """Makes the call on the model's pool, a read or a write with the kept numbers that it has, if any. Gives its answer as (kind, value)."""
     frames, store, out = memory.frames[:call['frames']], memory.store[:call['store']], memory.out[:call['out']]
     try:
         if call['letter'] == 'R':
-            answer = pool.read(call['page'], frames, store, out)
+            answer = pool.read(call['page'], frames, store, out, call.get('kept'))
         elif call['letter'] == 'W':
-            answer = pool.write(call['page'], call['start'], stretch(call['value'], call['length']), frames, store)
+            answer = pool.write(call['page'], call['start'], stretch(call['value'], call['length']), frames, store, call.get('kept'))
         elif call['letter'] == 'F':
             answer = pool.flush(frames, store)
         elif call['letter'] == 'D':
@@ -118,15 +119,15 @@ def said(answer):
 
 class Tally:
     def __init__(self):
-        self.digest, self.counts = 0, {}
+        self.digest, self.counts, self.met = 0, {}, set()
 
     def absorb(self, answer, raw, memory):
         self.digest = zlib.crc32(struct.pack('<QQ', *answer) + raw.packed() + memory.packed(), self.digest)
         self.counts[answer[0]] = self.counts.get(answer[0], 0) + 1
 
     def told(self):
-        kinds = HIT, *FAULT.values(), FLUSH, TOTAL, DROP, *range(2, 7)
-        return 'hits %d faults %d %d %d flushes %d totals %d drops %d refused %d %d %d %d %d' % tuple(self.counts.get(kind, 0) for kind in kinds)
+        kinds = HIT, *FAULT.values(), FLUSH, TOTAL, DROP, *range(2, 7), 13
+        return 'hits %d faults %d %d %d flushes %d totals %d drops %d refused %d %d %d %d %d windows %d' % tuple(self.counts.get(kind, 0) for kind in kinds)
 
 
 # ---- every short sequence
@@ -232,24 +233,126 @@ def try_letters(tally, numbers, raw, chance, memory):
             tally.absorb((2, 0), raw, memory)
 
 
+# ---- calls with kept numbers
+
+def window_by(n, full, chance):
+    """What is kept of a window that is full, or still filling: its times are all 1, or all 65,535, or add up to any sum between."""
+    fill = n if full else chance // 8 % n
+    least, most = fill, fill * MOST_TIME
+    return Window(fill, fill % n, {0: least, 1: most}.get(chance % 8, least + chance % (most - least + 1)))
+
+
+def change_kept(kept, which):
+    """One thing becomes wrong that a serving call sees: n, a fill (with a sum that suits it, or without), a sum; or a next place, which none sees."""
+    way = which // 3
+    if which % 3 == 0:
+        kept.n = (0, MOST_TIMES + 1, MOST)[way % 3]
+        if kept.n == 0:
+            kept.reads, kept.writes = Window(), Window()
+        return
+    window = (kept.reads, kept.writes)[which % 3 - 1]
+    n, fill = kept.n, window.fill
+    vars(window).update((dict(fill=n + 1, sum=n + 1), dict(fill=MOST), dict(sum=(fill - 1) % (MOST + 1)), dict(sum=fill * MOST_TIME + 1), dict(sum=MOST),
+                         dict(fill=0, sum=1), dict(next=n), dict(next=MOST))[way])
+
+
+def kept_by(how, of_reads, of_writes):
+    """None for the plain call; else kept numbers, of which one thing may have been changed."""
+    if how % 4 == 0:
+        return None
+    n = (1, 2, 3, 100, MOST_TIMES - 1, MOST_TIMES)[how // 64 % 6]
+    kept = Kept(n, window_by(n, how // 4 % 4 > 0, of_reads), window_by(n, how // 16 % 4 > 0, of_writes))
+    if how % 4 == 3:
+        change_kept(kept, how // 384 % 24)
+    return kept
+
+
+def timed_call(b, P, N, seed):
+    return dict(random_call(b, P, N, seed), kept=kept_by(*(after(seed, k) for k in (3, 4, 5))))
+
+
+def strained(pool, chance):
+    """A broken pool, one that has served all its calls, or mostly the pool itself."""
+    other = pool.copied()
+    if chance % 16 == 0:
+        other.target = 65 * UNIT
+    elif chance % 16 == 1:
+        other.served = MOST_SERVED
+    else:
+        return pool
+    return other
+
+
+# What kept numbers must meet in reads and in writes: each condition of 13 by itself, just past its limit, where the plain call is served; something wrong in calls
+# that are refused 2 to 6 without them; and nothing wrong, though a next place is off.
+EDGES = [('n', n) for n in (0, MOST_TIMES + 1, MOST)] + [
+    (what + ' of ' + name, past) for name in ('reads', 'writes')
+    for what, past in (('fill', 1), ('sum', (-1, False)), ('sum', (1, False)), ('sum', (1, True)))]
+WANTED = {(letter, *what) for letter in 'RW' for what in EDGES + [('any', number) for number in range(2, 7)] + [('next place', 'served')]}
+
+
+def edge(kept, wrong):
+    """The one thing that is wrong, and how far past its limit; of a sum also whether nothing is filled."""
+    if wrong == 'n':
+        return wrong, kept.n
+    what, name = wrong.split(' of ')
+    window = dict(kept.windows())[name]
+    if what == 'fill':
+        return wrong, window.fill - kept.n
+    limit = window.fill * (1 if window.sum < window.fill else MOST_TIME)
+    return wrong, (window.sum - limit, window.fill == 0)
+
+
+def meet(met, call, plain, kind):
+    """`plain` is the kind of answer that the call gives without kept numbers: only 2 comes before 13."""
+    letter, kept = call['letter'], call['kept']
+    if letter not in 'RW' or kept is None:
+        return
+    wrong = tuple(kept.wrong())
+    assert kind == (13 if wrong and plain != 2 else plain)
+    if wrong:
+        met.add((letter, 'any', plain))
+        if len(wrong) == 1 and plain >= HIT:
+            met.add((letter, *edge(kept, *wrong)))
+    elif plain >= HIT and any(window.next >= kept.n for _, window in kept.windows()):
+        met.add((letter, 'next place', 'served'))
+
+
 # ---- runs
 
-def runs(name, calls, broken):
+def random_turn(tally, pool, seed, memory):
+    answer = make(pool, random_call(pool.b, pool.P, pool.N, seed), memory)
+    tally.absorb(answer, Raw(pool), memory)
+
+
+def broken_turn(tally, pool, seed, memory):
+    make(pool, random_call(pool.b, pool.P, pool.N, seed), memory)
+    raw = Raw(pool)
+    change(raw, after(seed, 2))
+    try_letters(tally, (pool.b, pool.P, pool.N), raw, after(seed, 5), memory)
+
+
+def timed_turn(tally, pool, seed, memory):
+    """What a call does to a pool that was strained for it does not stay."""
+    call, on = timed_call(pool.b, pool.P, pool.N, seed), strained(pool, after(seed, 3) // 9216)
+    plain = make(on.copied(), dict(call, kept=None), memory.copy())
+    answer = make(on, call, memory)
+    meet(tally.met, call, plain[0], answer[0])
+    tally.absorb(answer, Raw(on), memory)
+
+
+def runs(name, turns, turn, wanted=frozenset()):
+    """A run for each number of frames; at the end everything that is wanted was met."""
     total = Tally()
     for b in range(1, 65):
         b, P, N, r, w = world(b)
         pool, memory, seed = Pool(b, P, N, r, w), Memory(b * P + 1, N * P + 1, P + 1), b
         total.digest = 0
-        for _ in range(calls):
-            answer = make(pool, random_call(b, P, N, seed), memory)
-            if broken:
-                raw = Raw(pool)
-                change(raw, after(seed, 2))
-                try_letters(total, (b, P, N), raw, after(seed, 5), memory)
-            else:
-                total.absorb(answer, Raw(pool), memory)
+        for _ in range(turns):
+            turn(total, pool, seed, memory)
             seed = after(seed, 5)
         print(name, b, total.digest)
+    assert wanted <= total.met, wanted - total.met
     print(name, total.told())
 
 
@@ -259,5 +362,6 @@ if __name__ == '__main__':
     for costs in ((0, 0), (1, 1), (3, 2)):
         sequences('small', 7, 6, *costs)
     sequences('drops', 10, 5, 3, 2)
-    runs('random', 2000, False)
-    runs('broken', 250, True)
+    runs('random', 2000, random_turn)
+    runs('broken', 250, broken_turn)
+    runs('timed', 1000, timed_turn, WANTED)

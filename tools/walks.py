@@ -11,7 +11,7 @@ and many of them change the places of others. Here the context is a list of name
 It takes for granted, and the checker refuses the written proof otherwise, that
   - a thin function is `let done = CALLEE(*pool, OTHERS); *pool = done.pool; done.answer`, with `pool: &mut Pool` for its first parameter;
   - an owning function is `let mut own = pool; let answer = CALLEE(&mut own, OTHERS); STRUCT { pool: own, answer }`, with `pool: Pool` for its first;
-  - OTHERS are numbers and slices of bytes, each slice at a lifetime of its own, and are passed on as they come;
+  - OTHERS are numbers, kept numbers and slices of bytes, each slice at a lifetime of its own, and are passed on as they come;
   - STRUCT has the fields `pool` and `answer`, the latter of an enum type, and no function has a `requires`;
   - `ensures` is one fact, and the callee's `ensures` states it too.
 So a new parameter is a word in a table, a new function of these shapes is a line in one, and a new field of the pool is nothing.
@@ -31,12 +31,14 @@ class Call:
     callee: str
     struct: str         # of crate `casa`: the pool and the answer
     answer: str         # of crate `model`: the answer's type
-    others: str         # the parameters after the pool, as NAME:KIND, a kind being usize, & or &mut (the last two of bytes)
+    others: str         # the parameters after the pool, as NAME:KIND, a kind being usize, Kept (a struct of crate `model`), & or &mut (the last two of bytes)
 
 
 THIN = [
     Call('read_page_in', 'casa', 'read_page', 'Served', 'Answer', 'page:usize frames:&mut store:&mut out:&mut'),
     Call('write_page_in', 'casa', 'write_page', 'Served', 'Answer', 'page:usize start:usize bytes:& frames:&mut store:&mut'),
+    Call('read_page_measured_in', 'casa', 'read_page_measured', 'Served', 'Answer', 'kept:Kept page:usize frames:&mut store:&mut out:&mut'),
+    Call('write_page_measured_in', 'casa', 'write_page_measured', 'Served', 'Answer', 'kept:Kept page:usize start:usize bytes:& frames:&mut store:&mut'),
     Call('flush_in', 'casa', 'flush', 'Flushed', 'Flushing', 'frames:& store:&mut'),
     Call('drop_page_in', 'casa', 'drop_page', 'Dropped', 'Dropping', 'page:usize frames:& store:&mut'),
 ]
@@ -79,18 +81,21 @@ class Other:
 
     def slot(self):
         slice = f'Slice {self.lifetime} tt (λ _. u8)'
-        return {'usize': 'plain (λ _. usize)', '&': 'shr' + slice, '&mut': 'mut' + slice}[self.kind]
+        return {'usize': 'plain (λ _. usize)', 'Kept': 'plain (λ _. K.the-row)', '&': 'shr' + slice, '&mut': 'mut' + slice}[self.kind]
 
     def spelled(self):
-        return 'uint-vals w64' if self.kind == 'usize' else 'slice-vals'
+        return {'usize': 'uint-vals w64', 'Kept': 'LL.vals K.the-type K′.the-laws'}.get(self.kind, 'slice-vals')
 
     def told(self):
         slice = f'slice-tells (named {self.lifetime}) (κs{" .1" * self.lifetime} .0) u8'
-        return {'usize': 'uint-tells w64', '&': 'shr-' + slice, '&mut': 'mut-' + slice}[self.kind]
+        return {'usize': 'uint-tells w64', 'Kept': 'LL.tells K.the-type K′.the-laws', '&': 'shr-' + slice, '&mut': 'mut-' + slice}[self.kind]
 
     def typed(self):
-        """That the machine value is of its type: the number, or the slice's length, fits its width, by what is known of the parameters, `are`."""
-        known = f'are .1{" .1" * self.place} .0'
+        """That the machine value is of its type: the number, the struct's fields or the slice's length fit their widths, by what is known of the parameters, `are`."""
+        at = f'.1{" .1" * self.place} .0'
+        known = f'are {at}'
+        if self.kind == 'Kept':
+            return f'(LL.lawful K.the-type K′.the-laws 𝓤 H A W .typed (a {at}) _ ({known}) .0)'
         if self.kind == 'usize':
             return f'(tt, record {{ fits = {known} .1 }})'
         return f'(tt, (tt, (record {{ fits = {known} .0 .1 .0 }}, tt)))'
@@ -106,7 +111,7 @@ def others_of(call, lifetime):
     for place, word in enumerate(call.others.split()):
         name, kind = word.split(':')
         others.append(Other(name, kind, place, lifetime))
-        lifetime += kind != 'usize'
+        lifetime += kind[0] == '&'
     return others, lifetime
 
 
@@ -502,6 +507,8 @@ Rattle.casa.proofs.@struct.Laws as S′
 Rattle.model.specs.declared.@answer @answer
 Rattle.model.proofs.@answer as N
 Rattle.model.proofs.@answer.Laws as N′
+Rattle.model.proofs.Kept as K
+Rattle.model.proofs.Kept.Laws as K′
 @theirs as g
 @theirs.Symbol as g-def
 @theirs.Symbol name=#g
@@ -528,7 +535,8 @@ def imports(text, names):
     for line in Text(IMPORTS).substitute(names).splitlines():
         module, *words = line.split()
         if words[0] == 'as':
-            lines.append(f'use {module} as {words[1]}')
+            if used(words[1]):
+                lines.append(f'use {module} as {words[1]}')
         elif any(map(used, words)):
             lines.append(f'use {module}.{{{", ".join(word.replace("=", " as ") for word in words if used(word))}}}')
     return '\n'.join(lines) + '\n'

@@ -104,7 +104,7 @@ fn length_by(page_bytes: usize, start: usize, chance: usize) -> usize {
     1
 }
 
-// A call that is not refused on a sound pool. `chance` decides on page, stretch and bytes.
+// A call without kept numbers that is not refused on a sound pool. `chance` decides on page, stretch and bytes.
 pub fn right_call(world: World, letter: u8, chance: usize) -> Call {
     let start = start_by(world.page_bytes, chance / 512);
     let length = length_by(world.page_bytes, start, chance / 16384);
@@ -117,6 +117,8 @@ pub fn right_call(world: World, letter: u8, chance: usize) -> Call {
         frame_bytes: world.frame_bytes,
         store_bytes: world.store_bytes,
         out_bytes: world.page_bytes,
+        measured: false,
+        kept: costs::fresh(0),
     }
 }
 

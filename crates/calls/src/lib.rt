@@ -1,40 +1,46 @@
-// Calls as data, for a program that makes them in large numbers: a call and its answer as numbers; `chance` makes calls up.
+// Calls as data, for a program that makes them in large numbers: a call and its answer as numbers; `chance` makes calls up, `windows` the kept numbers of
+// those that take them.
 ghost use Prim.Native.Nat.{_≤_};
 
 pub mod chance;
+pub mod windows;
 
 use casa::Served;
 use model::Answer;
 use model::Costing;
 use model::Dropping;
 use model::Flushing;
+use model::Kept;
 use model::Refusal;
+use model::Timing;
 use model::Victim;
 use pool::Pool;
 
 // ---- answers
 
-// An answer by its kind and value. A refusal's kind is the scope's number, 1 to 10.
+// An answer by its kind and value. A refusal's kind is the scope's number, 1 to 19.
 pub struct Said {
     pub kind: usize,
     pub value: u64,
 }
 
-pub const HIT: usize = 11;
+pub const NOTED: usize = 0;
 
-pub const FAULT: usize = 12;
+pub const HIT: usize = 20;
 
-pub const CLEAN_FAULT: usize = 13;
+pub const FAULT: usize = 21;
 
-pub const DIRTY_FAULT: usize = 14;
+pub const CLEAN_FAULT: usize = 22;
 
-pub const FLUSH: usize = 15;
+pub const DIRTY_FAULT: usize = 23;
 
-pub const TOTAL: usize = 16;
+pub const FLUSH: usize = 24;
 
-pub const DROP: usize = 17;
+pub const TOTAL: usize = 25;
 
-pub const KINDS: usize = 18;
+pub const DROP: usize = 26;
+
+pub const KINDS: usize = 27;
 
 fn said_refusal(why: Refusal) -> Said {
     let kind = model::number_of(why) as usize;
@@ -99,9 +105,29 @@ fn said_total(answer: Costing) -> Said {
     }
 }
 
+pub fn said_timing(answer: Timing) -> Said {
+    match answer {
+        Timing::Refused(why) => said_refusal(why),
+        Timing::Noted => Said {
+            kind: NOTED,
+            value: 0,
+        },
+    }
+}
+
+// How many answers were of each kind, with one more.
+pub fn one_more(counts: [u64; KINDS], kind: usize) -> [u64; KINDS] {
+    let mut more = counts;
+    if kind < KINDS {
+        more[kind] = std::num::wrapping_add_u64(more[kind], 1);
+    }
+    more
+}
+
 // ---- one call
 
-// A call by the letter of a trace, or T for the total, with how many bytes of each memory are lent. A write's bytes grow from `value`.
+// A call by the letter of a trace, or T for the total, with how many bytes of each memory are lent. A write's bytes grow from `value`. A read or a write that is
+// `measured` takes the kept numbers; no other call looks at them.
 pub struct Call {
     pub letter: u8,
     pub page: usize,
@@ -111,6 +137,8 @@ pub struct Call {
     pub frame_bytes: usize,
     pub store_bytes: usize,
     pub out_bytes: usize,
+    pub measured: bool,
+    pub kept: Kept,
 }
 
 // The pool that a call hands back, and its answer.
@@ -150,14 +178,30 @@ pub fn left_by(served: Served) -> Left {
     Left { pool, said }
 }
 
-fn read(pool: Pool, page: usize, frames: &mut [u8], store: &mut [u8], out: &mut [u8]) -> Left {
-    let served = casa::read_page(pool, page, frames, store, out);
+fn read(pool: Pool, call: Call, frames: &mut [u8], store: &mut [u8], out: &mut [u8]) -> Left {
+    if call.measured {
+        let timed = casa::read_page_measured(pool, call.kept, call.page, frames, store, out);
+        return left_by(timed);
+    }
+    let served = casa::read_page(pool, call.page, frames, store, out);
     left_by(served)
 }
 
 fn write(pool: Pool, call: Call, frames: &mut [u8], store: &mut [u8]) -> Left {
     let bytes = stretch_bytes(call.value);
     let length = at_most(call.length, STRETCH);
+    if call.measured {
+        let timed = casa::write_page_measured(
+            pool,
+            call.kept,
+            call.page,
+            call.start,
+            &bytes[0..length],
+            frames,
+            store,
+        );
+        return left_by(timed);
+    }
     let served = casa::write_page(
         pool,
         call.page,
@@ -194,7 +238,7 @@ fn total(pool: Pool) -> Left {
 fn serve(pool: Pool, call: Call, frames: &mut [u8], store: &mut [u8], out: &mut [u8]) -> Left {
     let letter = call.letter;
     match letter {
-        b'R' => read(pool, call.page, frames, store, out),
+        b'R' => read(pool, call, frames, store, out),
         b'W' => write(pool, call, frames, store),
         b'F' => flush(pool, frames, store),
         b'D' => drop(pool, call.page, frames, store),

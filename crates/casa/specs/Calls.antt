@@ -1,6 +1,6 @@
 -- CASA's pools as a policy, and what each public call leaves, for every input: the pool, what is said, and every lent byte. The promises state it, whole;
 -- what a read, a write, a flush, a drop or a total leaves is said once for any policy, by model's `left`.
---     pools        CASA's pools as a policy
+--     pools        CASA's pools as a policy, passed on from `fine` with `worldOf`, their world
 --     after        what a call leaves of a pool, the frame memory and the store that it was lent
 --     servedLeft, flushedLeft, droppedLeft, openLeft    what a call returned, with the lent bytes as it left them
 --     openAfter    what opening leaves
@@ -11,17 +11,15 @@ use lib.ListN.{replicate}
 use Rattle.order.specs.Places.{places}
 use Rattle.model.specs.Numbers.{Numbers, meant}
 use Rattle.model.specs.Words.{Said, opened as saidOpened, refusalSays, answerSays, openingSays, flushingSays, droppingSays}
-use Rattle.model.specs.Policy.{Policy, pooled}
 use Rattle.model.specs.State.{opened}
-use Rattle.model.specs.Request.{states}
 use Rattle.model.specs.Refusals.{outOfLimits, first, openVerdict}
 use Rattle.model.specs.Bytes.{memory}
-use Rattle.model.specs.Run.{Call, World, Left, served, left}
+use Rattle.model.specs.Run.{Call, Left, left}
 use Rattle.model.specs.declared.Verdict.{Verdict}
 use Rattle.model.specs.declared.Verdict.the-variants.{Fine, Refused}
-use Rattle.pool.specs.Pool.{poolOf, stateOf}
-use Rattle.pool.specs.Test.{soundB}
+use Rattle.pool.specs.Pool.{poolOf}
 use Rattle.pool.specs.declared.Pool.{Pool}
+pub use Rattle.fine.specs.Serving.{pools, worldOf}
 use Rattle.casa.specs.declared.Opened.{Opened}
 use Rattle.casa.specs.declared.Served.{Served}
 use Rattle.casa.specs.declared.Flushed.{Flushed}
@@ -29,19 +27,8 @@ use Rattle.casa.specs.declared.Dropped.{Dropped}
 
 -- ---- what a call leaves of a pool
 
--- refusal 2 is the test of soundness
-abbrev pub pools : Policy
-pools = pooled states Pool stateOf poolOf soundB
-
-abbrev pub worldOf : Pool → List ℕ → List ℕ → World Pool
-worldOf p frames store = record { state = p; memory = memory frames store }
-
 abbrev pub after : Pool → List ℕ → List ℕ → Call → Left Pool
 after p frames store c = left pools (worldOf p frames store) c
-
--- a call that is not refused
-unfoldable pub servedAfter : Pool → List ℕ → List ℕ → Call → Left Pool
-servedAfter p frames store c = served pools (worldOf p frames store) c
 
 -- ---- what a call returned: a read or a write; a flush and a drop, which have no output
 

@@ -1,18 +1,18 @@
-// The public calls of the page buffer, on a pool that is handed in and handed back: open, read, write, flush, drop and total. Every call takes any numbers, any
-// bytes and any pool; what cannot be served is refused with the scope's number, and a refused call changes nothing.
+// The public calls of the page buffer, on a pool that is handed in and handed back: open, read, write, flush, drop and total, a read and a write also in a form
+// that takes kept numbers. Every call takes any numbers, any bytes and any pool; what cannot be served is refused with the scope's number, and a refused call
+// changes nothing.
 ghost use mathlib.Core.Path.{_≡_};
 ghost use mathlib.Core.List.{[]};
 ghost use Rattle.model.specs.Words.{costingSays};
+ghost use Rattle.model.specs.Times.{unmeasured, measured};
 ghost use Rattle.model.specs.Run as run;
 ghost use Rattle.model.specs.Numbers.{numbers};
 ghost use Rattle.casa.specs.Calls.{openBy, openAfter, openLeft, after, servedLeft, flushedLeft, droppedLeft};
-
-mod fine;
-
 use model::Answer;
 use model::Costing;
 use model::Dropping;
 use model::Flushing;
+use model::Kept;
 use model::Opening;
 use model::Refusal;
 use model::USUAL_READ;
@@ -86,7 +86,7 @@ pub fn open(
 
 // ---- read
 
-// Reads a page: `out` becomes its bytes. Refused: 2, 3, 4, 5, 6.
+// Reads a page: `out` becomes its bytes. Refused: 2, 3, 4, 5, 6. It is the form that takes kept numbers, with nothing measured yet.
 pub fn read_page(
     pool: Pool,
     page: usize,
@@ -95,13 +95,31 @@ pub fn read_page(
     out: &mut [u8],
 ) -> Served
     ensures { λ r. ⌜ servedLeft r (now (frames .exit)) (now (store .exit)) (now (out .exit))
-        ≡ after pool (now (frames .entry)) (now (store .entry)) (run.read page (now (out .entry))) ⌝ }
+        ≡ after pool (now (frames .entry)) (now (store .entry)) (run.read unmeasured page (now (out .entry))) ⌝ }
+{
+    let kept = costs::fresh(1);
+    read_page_measured(pool, kept, page, frames, store, out)
+}
+
+// Reads a page, with the costs that are measured on the drive once both windows are full. Refused: 2, 13, 3, 4, 5, 6.
+pub fn read_page_measured(
+    pool: Pool,
+    kept: Kept,
+    page: usize,
+    frames: &mut [u8],
+    store: &mut [u8],
+    out: &mut [u8],
+) -> Served
+    ensures { λ r. ⌜ servedLeft r (now (frames .exit)) (now (store .exit)) (now (out .exit))
+        ≡ after pool (now (frames .entry)) (now (store .entry)) (run.read (measured kept) page (now (out .entry))) ⌝ }
 {
     let size = pool.page_bytes;
     let fit = out.len() == size;
     let sound = pool::sound(pool);
+    let timed = costs::kept_fits(kept);
     let verdict = serve::request_verdict(
         sound,
+        timed,
         pool.frames,
         size,
         pool.pages,
@@ -116,13 +134,18 @@ pub fn read_page(
             pool,
             answer: Answer::Refused(why),
         },
-        Verdict::Fine => fine::read(pool, page, frames, store, out),
+        Verdict::Fine => {
+            let read = fine::read(pool, kept, page, frames, store, out);
+            let next = read.pool;
+            let answer = read.answer;
+            Served { pool: next, answer }
+        }
     }
 }
 
 // ---- write
 
-// Writes `bytes` into a page, from its byte `start` on. Refused: 2, 3, 4, 5, 6.
+// Writes `bytes` into a page, from its byte `start` on. Refused: 2, 3, 4, 5, 6. With nothing measured yet, as the read.
 pub fn write_page(
     pool: Pool,
     page: usize,
@@ -132,13 +155,32 @@ pub fn write_page(
     store: &mut [u8],
 ) -> Served
     ensures { λ r. ⌜ servedLeft r (now (frames .exit)) (now (store .exit)) []
-        ≡ after pool (now (frames .entry)) (now (store .entry)) (run.write page start (now (bytes .entry))) ⌝ }
+        ≡ after pool (now (frames .entry)) (now (store .entry)) (run.write unmeasured page start (now (bytes .entry))) ⌝ }
+{
+    let kept = costs::fresh(1);
+    write_page_measured(pool, kept, page, start, bytes, frames, store)
+}
+
+// Writes `bytes` into a page, with the costs that are measured on the drive once both windows are full. Refused: 2, 13, 3, 4, 5, 6.
+pub fn write_page_measured(
+    pool: Pool,
+    kept: Kept,
+    page: usize,
+    start: usize,
+    bytes: &[u8],
+    frames: &mut [u8],
+    store: &mut [u8],
+) -> Served
+    ensures { λ r. ⌜ servedLeft r (now (frames .exit)) (now (store .exit)) []
+        ≡ after pool (now (frames .entry)) (now (store .entry)) (run.write (measured kept) page start (now (bytes .entry))) ⌝ }
 {
     let size = pool.page_bytes;
     let fit = serve::stretch_fits(size, start, bytes.len());
     let sound = pool::sound(pool);
+    let timed = costs::kept_fits(kept);
     let verdict = serve::request_verdict(
         sound,
+        timed,
         pool.frames,
         size,
         pool.pages,
@@ -153,13 +195,18 @@ pub fn write_page(
             pool,
             answer: Answer::Refused(why),
         },
-        Verdict::Fine => fine::write(pool, page, start, bytes, frames, store),
+        Verdict::Fine => {
+            let wrote = fine::write(pool, kept, page, start, bytes, frames, store);
+            let next = wrote.pool;
+            let answer = wrote.answer;
+            Served { pool: next, answer }
+        }
     }
 }
 
 // ---- flush
 
-// Writes every changed page to the store. Refused: 2, 3, 6. It names no page and no bytes: it is refused as a fitting request for page 0 is, which every
+// Writes every changed page to the store. Refused: 2, 3, 6. It names no page, no bytes and no kept numbers: it is refused as a fitting request for page 0 is, which every
 // sound pool has.
 pub fn flush(pool: Pool, frames: &[u8], store: &mut [u8]) -> Flushed
     ensures { λ r. ⌜ flushedLeft r (now (frames .entry)) (now (store .exit)) ≡ after pool (now (frames .entry)) (now (store .entry)) run.flush ⌝ }
@@ -167,6 +214,7 @@ pub fn flush(pool: Pool, frames: &[u8], store: &mut [u8]) -> Flushed
     let sound = pool::sound(pool);
     let verdict = serve::request_verdict(
         sound,
+        true,
         pool.frames,
         pool.page_bytes,
         pool.pages,
@@ -181,20 +229,27 @@ pub fn flush(pool: Pool, frames: &[u8], store: &mut [u8]) -> Flushed
             pool,
             answer: Flushing::Refused(why),
         },
-        Verdict::Fine => fine::flush(pool, frames, store),
+        Verdict::Fine => {
+            let next = fine::flush(pool, frames, store);
+            Flushed {
+                pool: next,
+                answer: Flushing::Wrote(pool.dirty_len),
+            }
+        }
     }
 }
 
 // ---- drop
 
 // Cuts a page for good: its bytes in the store become zero, and a frame that has it is free again, what is in it lost. The frame memory is lent to be measured
-// alone. Refused: 2, 3, 4, 6, as a request for the page is whose bytes fit.
+// alone. Refused: 2, 3, 4, 6, as a request for the page is whose bytes fit, without kept numbers.
 pub fn drop_page(pool: Pool, page: usize, frames: &[u8], store: &mut [u8]) -> Dropped
     ensures { λ r. ⌜ droppedLeft r (now (frames .entry)) (now (store .exit)) ≡ after pool (now (frames .entry)) (now (store .entry)) (run.drop page) ⌝ }
 {
     let sound = pool::sound(pool);
     let verdict = serve::request_verdict(
         sound,
+        true,
         pool.frames,
         pool.page_bytes,
         pool.pages,
@@ -209,7 +264,13 @@ pub fn drop_page(pool: Pool, page: usize, frames: &[u8], store: &mut [u8]) -> Dr
             pool,
             answer: Dropping::Refused(why),
         },
-        Verdict::Fine => fine::drop(pool, page, frames, store),
+        Verdict::Fine => {
+            let next = fine::drop(pool, page, frames, store);
+            Dropped {
+                pool: next,
+                answer: Dropping::Dropped,
+            }
+        }
     }
 }
 

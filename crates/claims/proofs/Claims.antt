@@ -6,12 +6,16 @@
 -- "whenever"; that a frame has the page is a drop's "if it was resident". Nothing is asked of a pool that was opened and used through its calls: `used-sound`
 -- gives it.
 --
+-- Of times: `keptFits k ≡ true` and `bothFull k ≡ false` say that kept numbers are not refused, and not of two full windows; `startVerdict .. ≡ Fine` that the
+-- windows were started; that times are at most `mostTime` is that they have 16 bits; `AsOpened` that no call of a recorded run was served with two full windows.
+--
 -- Then the writer of trace files. `beginVerdict .. ≡ Fine` says that the trace was begun; `AllBelow 256` that a file is bytes; `roomFor .. ≡ true` that
 -- there was room for all records; the lengths that memory lent to a run of the trace is of the right sizes. Assumes nothing.
-use mathlib.Core.Path.{_≡_, ap}
-use mathlib.Core.Bool.{true}
+use mathlib.Core.Path.{_≡_, refl, ap, _∙_}
+use mathlib.Core.Bool.{true, false, not, cond as if-else}
 use mathlib.Core.List.{List, [], _∷_, _++_}
 use Prim.Native.Nat.{ℕ, _*_, _≤_, _<_}
+use lib.Dec.{eqb}
 use lib.ListN.{length, getD, take, replicate}
 use Rattle.little.specs.Little.{AllBelow}
 use Rattle.pages.specs.Pages.{pageOf}
@@ -20,15 +24,18 @@ use Rattle.model.specs.Words.{opened as saidOpened, refusalSays}
 use Rattle.model.specs.State.{opened as openedState, pageIn, numberIn, resident}
 use Rattle.model.specs.References.{lastReference}
 use Rattle.model.specs.Target.{Adjustment, Exact, exactZero, exactAll, Near, Bounded, FurtherThan, aboveExact}
-use Rattle.model.specs.Refusals.{openVerdict, GivenBy}
+use Rattle.model.specs.Times.{Times, unmeasured, measured, mostTime, lengthFits, keptFits, timesFit, bothFull, freshKept}
+use Rattle.model.specs.Refusals.{openVerdict, GivenBy, here}
 use Rattle.model.specs.Request.{locate}
 use Rattle.model.specs.Moves.{laid}
-use Rattle.model.specs.Run.{Call, read, write, drop, outputOf, World, furtherRows, verdictOf, costsIn, left, after, afterAll, history, gathered}
+use Rattle.model.specs.Run.{Call, read, write, drop, outputOf, timesOf, World, furtherRows, verdictOf, costsIn, left, after, afterAll, history, gathered}
 use Rattle.model.specs.Table.{worked, expected}
 use Rattle.model.specs.declared.Place.the-variants.{Absent}
 use Rattle.model.specs.declared.Refusal.{Refusal}
-use Rattle.model.specs.declared.Refusal.the-variants.{BrokenPool, OutOfLimits}
+use Rattle.model.specs.declared.Refusal.the-variants.{BrokenPool, OutOfLimits, ZeroTime, BrokenWindows}
 use Rattle.model.specs.declared.Verdict.the-variants.{Fine, Refused as Refused-by}
+use Rattle.model.specs.declared.Kept.{Kept}
+use Rattle.model.proofs.Times.{unfilled-opened, fresh-kept, read-opened, write-opened}
 use Rattle.model.proofs.Table as proved
 use Rattle.pool.specs.Pool.{poolOf, numbersIn as poolNumbers, stateOf, Sound}
 use Rattle.pool.specs.declared.Pool.{Pool}
@@ -43,8 +50,13 @@ use Rattle.trace.specs.declared.Next.the-variants.{End}
 use Rattle.trace.proofs.Reading.{refused-none, recordAt-in, refused-yields-none}
 use Rattle.recorder.specs.Words.{refusalSays as recorderSays}
 use Rattle.recorder.specs.Calls.{zeroRecorder, roomFor, beginRows, addRows, closeRows, beginVerdict, addVerdict, closeVerdict, beginAfter, addAfter, closeAfter}
-use Rattle.recorder.specs.Runs.{Tape, tapeOf, afterAdds, afterClose, kept, Reads, valueOf, recordsOf, shown, afterRecording, callsOf}
+use Rattle.recorder.specs.Runs.{Tape, tapeOf, afterAdds, afterClose, kept, Reads, valueOf, recordsOf, shown, afterRecording, callsOf, AsOpened}
 use Rattle.recorder.specs.declared.Recorder.{Recorder}
+use Rattle.times.specs.Reports.{Windows, windows, Report, timeIn, Reported, windowsRight, reportRows, reportVerdict, reportAfter, startRows, startVerdict, zeroKept, startAfter}
+use Rattle.times.specs.Reports.{afterReports, readTimes, writeTimes, HasLast}
+use Rattle.times.proofs.Right.{report-right}
+use Rattle.times.proofs.Last.{reports-last, used-verdict, used-fits}
+use Rattle.times.proofs.Reporting.{report-given, given-report, report-leaves, start-given, given-start, start-leaves, zero-unfit, zero-refused}
 use Rattle.claims.specs.World.{Exactly, Broken, Says, TraceSays, opened, ClosesAs, Followed, adjusting, LatestFirst, Asks, Took, lastSaid, headerRows, checkRows}
 use Rattle.claims.proofs.Opening as opening
 use Rattle.claims.proofs.Traces as traces
@@ -118,19 +130,20 @@ module _ (n : Numbers) (accepted : openVerdict n ≡ Fine) (frames store : List 
   pub used-sound : Sound (used .state)
   used-sound = run-sound cs (opened n frames store) (open-sound n accepted)
 
-  -- ---- demand 2: a call that is served leaves the state, the answer and the bytes of Algorithm 1 on the state before it
+  -- ---- demand 2: a call that is served leaves the state, the answer and the bytes of Algorithm 1 on the state before it, with the costs in force, whatever kept
+  -- numbers it takes
 
-  pub demand-2-follows : (c : Call) → verdictOf pools used c ≡ Fine → Followed (costsIn pools used) (stateOf (used .state)) (used .memory) c (left pools used c)
+  pub demand-2-follows : (c : Call) → verdictOf pools used c ≡ Fine → Followed (costsIn pools used (timesOf c)) (stateOf (used .state)) (used .memory) c (left pools used c)
   demand-2-follows = call-follows used used-sound
 
   -- and a read that is served returns the page as the store first had it with all served writes laid over it in order, a drop being a write of P zeros
-  pub demand-2 : (page : ℕ) (out : List ℕ) → verdictOf pools used (read page out) ≡ Fine
-      → left pools used (read page out) .out ≡ history pools (opened n frames store) cs (λ p. pageOf (meant n .P) p store) page
+  pub demand-2 : (t : Times) (page : ℕ) (out : List ℕ) → verdictOf pools used (read t page out) ≡ Fine
+      → left pools used (read t page out) .out ≡ history pools (opened n frames store) cs (λ p. pageOf (meant n .P) p store) page
   demand-2 = run-read n accepted frames store cs
 
   -- so a page that is read next behind its drop is zeros
-  pub demand-2-cut : (page : ℕ) (out : List ℕ) → verdictOf pools used (drop page) ≡ Fine → verdictOf pools (after pools used (drop page)) (read page out) ≡ Fine
-      → left pools (after pools used (drop page)) (read page out) .out ≡ replicate (meant n .P) 0
+  pub demand-2-cut : (t : Times) (page : ℕ) (out : List ℕ) → verdictOf pools used (drop page) ≡ Fine
+      → verdictOf pools (after pools used (drop page)) (read t page out) ≡ Fine → left pools (after pools used (drop page)) (read t page out) .out ≡ replicate (meant n .P) 0
   demand-2-cut = run-cut n accepted frames store cs
 
   -- "its frame leaves C or D and becomes the tail of E"
@@ -177,6 +190,69 @@ module _ (n : Numbers) (accepted : openVerdict n ≡ Fine) (frames store : List 
       → (page : ℕ) → locate (stateOf (used .state)) page ≡ Absent → (c : Call) → Asks page c → verdictOf pools used c ≡ Fine
       → left pools used c .said ≡ lastSaid (stateOf (used .state)) (aboveExact (length (stateOf (used .state) .lists .C)) exact)
   demand-3-victim = victim-said used used-sound (length made) exact demand-3
+
+-- ---- times measured on the drive: a call that takes kept numbers, and does not refuse them, is the call without them until both windows are full
+
+module _ (x : World Pool) (k : Kept) (fits : keptFits k ≡ true) (unfilled : bothFull k ≡ false) where
+  pub unfilled-read : (page : ℕ) (out : List ℕ) → left pools x (read (measured k) page out) ≡ left pools x (read unmeasured page out)
+  unfilled-read = read-opened pools x (measured k) fits (unfilled-opened k unfilled)
+
+  pub unfilled-write : (page start : ℕ) (bytes : List ℕ) → left pools x (write (measured k) page start bytes) ≡ left pools x (write unmeasured page start bytes)
+  unfilled-write = write-opened pools x (measured k) fits (unfilled-opened k unfilled)
+
+-- which is so with nothing measured yet
+pub fresh-unfilled : (n : ℕ) → lengthFits n ≡ true → (keptFits (freshKept n) ≡ true) × (bothFull (freshKept n) ≡ false)
+fresh-unfilled = fresh-kept
+
+-- on any kept numbers and any windows a report says a refusal exactly when its row is the first that holds, and then it changes nothing
+module _ (x : Windows) (r : Report) (y : Refusal) where
+  pub demand-1-report : Exactly (reportAfter x r .said ≡ refusalSays y) (GivenBy y (reportRows x r))
+  demand-1-report = (report-given x r y, given-report x r y)
+
+  pub demand-1-report-leaves : reportAfter x r .said ≡ refusalSays y → reportAfter x r .windows ≡ x
+  demand-1-report-leaves e = ap (λ (l : Reported). l .windows) (report-leaves x r y e)
+
+-- so does the start of two windows; refused, it returns kept numbers of all zeros, and changes no place
+module _ (n : ℕ) (reads writes : List ℕ) (y : Refusal) where
+  pub demand-1-start : Exactly (startAfter n reads writes .said ≡ refusalSays y) (GivenBy y (startRows n (length reads) (length writes)))
+  demand-1-start = (start-given n reads writes y, given-start n reads writes y)
+
+  pub demand-1-start-leaves : startAfter n reads writes .said ≡ refusalSays y → startAfter n reads writes .windows ≡ windows zeroKept reads writes
+  demand-1-start-leaves e = ap (λ (l : Reported). l .windows) (start-leaves n reads writes y e)
+
+-- which every report refuses, and on a sound pool every read and every write
+pub demand-1-zero-kept : ((reads writes : List ℕ) (r : Report) → reportAfter (windows zeroKept reads writes) r .said ≡ refusalSays BrokenWindows)
+    × ((x : World Pool) → Sound (x .state) → (page : ℕ) (out : List ℕ) → Says x (read (measured zeroKept) page out) BrokenWindows)
+    × ((x : World Pool) → Sound (x .state) → (page start : ℕ) (bytes : List ℕ) → Says x (write (measured zeroKept) page start bytes) BrokenWindows)
+demand-1-zero-kept = (
+  (λ reads writes r. ap (λ (l : Reported). l .said) (zero-refused reads writes r)),
+  (λ x s page out. refusing.given-says x (read (measured zeroKept) page out) s BrokenWindows (here (ap not zero-unfit) refl)),
+  (λ x s page start bytes. refusing.given-says x (write (measured zeroKept) page start bytes) s BrokenWindows (here (ap not zero-unfit) refl)),
+)
+
+-- "The kept sum always equals the window's sum": on windows of which the kept numbers are true a report leaves such again, wherever they come from
+pub reported-right : (x : Windows) (r : Report) → windowsRight x ≡ true → windowsRight (reportAfter x r .windows) ≡ true
+reported-right = report-right
+
+-- from the start of two windows, after any reports, refused ones among them
+module _ (n : ℕ) (reads writes : List ℕ) (started : startVerdict n (length reads) (length writes) ≡ Fine) (rs : List Report) where
+  abbrev pub reported : Windows
+  reported = afterReports (startAfter n reads writes .windows) rs
+
+  -- "keeps the last n times of physical reads and as many of writes", and the kept numbers are those of the windows
+  pub last-times : (reported .kept .n ≡ n)
+      × HasLast n (readTimes rs) (reported .kept .reads) (reported .reads)
+      × HasLast n (writeTimes rs) (reported .kept .writes) (reported .writes)
+  last-times = reports-last n reads writes started rs
+
+  -- so a report on them is refused for a time of 0 alone
+  pub reported-again : (r : Report) → reportVerdict reported r ≡ if-else (eqb (timeIn r) 0) (Refused-by ZeroTime) Fine
+  reported-again = used-verdict n reads writes started rs
+
+  -- and no serving call that takes their kept numbers says 13, since a time has 16 bits
+  pub reported-serves : ((i : ℕ) → getD (readTimes rs) i 0 ≤ mostTime) → ((i : ℕ) → getD (writeTimes rs) i 0 ≤ mostTime)
+      → (x : World Pool) (c : Call) → timesOf c ≡ measured (reported .kept) → Says x c BrokenWindows → ⊥
+  reported-serves r w x c e = refusing.fits-says x c (ap timesFit e ∙ used-fits n reads writes started rs r w)
 
 -- ---- the writer of trace files: on any recorder and any buffer its calls say a refusal exactly when its row is the first that holds, and then both stay
 
@@ -257,16 +333,16 @@ module _ (n : Numbers) (accepted : openVerdict n ≡ Fine) (frames store : List 
       × Reads s notes recorded-in (meant n)
   recorded-run = recording.run-closed n accepted frames store cs
 
-  -- and a run of these on any frames and store of the right sizes, from an open with those numbers, shows at each record what the call showed: what it
-  -- says, and the pool that it leaves; none of them is refused
-  pub replayed : (frames′ store′ out : List ℕ) → length frames′ ≡ meant n .b * meant n .P → length store′ ≡ meant n .N * meant n .P → length out ≡ meant n .P
+  -- and where no call was given kept numbers of two full windows ("CR 2's rerun holds only without reports"), a run of these on any frames and store of the right
+  -- sizes, from an open with those numbers, shows at each record what the call showed: what it says, and the pool that it leaves; none of them is refused
+  pub replayed : AsOpened cs → (frames′ store′ out : List ℕ) → length frames′ ≡ meant n .b * meant n .P → length store′ ≡ meant n .N * meant n .P → length out ≡ meant n .P
       → (openVerdict (meant n) ≡ Fine)
       × (gathered pools (shown pools) (opened n frames store) cs ≡ gathered pools (shown pools) (opened (meant n) frames′ store′) (callsOf out recorded-in))
       × (length (gathered pools (shown pools) (opened (meant n) frames′ store′) (callsOf out recorded-in)) ≡ length recorded-in)
-  replayed frames′ store′ out f s o = (
+  replayed u frames′ store′ out f s o = (
     recording.meant-opens n accepted,
-    recording.run-again n accepted frames store cs frames′ store′ out f s o,
-    recording.run-again-served n accepted frames store cs frames′ store′ out f s o,
+    recording.run-again n accepted frames store cs u frames′ store′ out f s o,
+    recording.run-again-served n accepted frames store cs u frames′ store′ out f s o,
   )
 
   -- in a buffer that fills, the records that found room are the first of them, and a run of these shows the first of what the calls showed
@@ -277,15 +353,15 @@ module _ (n : Numbers) (accepted : openVerdict n ≡ Fine) (frames store : List 
       ClosesAs x s buffer × Reads s notes (take k recorded-in) (meant n))
   recorded-front = recording.front-closed n accepted frames store cs
 
-  pub replayed-front : (frames′ store′ out : List ℕ) → length frames′ ≡ meant n .b * meant n .P → length store′ ≡ meant n .N * meant n .P
+  pub replayed-front : AsOpened cs → (frames′ store′ out : List ℕ) → length frames′ ≡ meant n .b * meant n .P → length store′ ≡ meant n .N * meant n .P
       → length out ≡ meant n .P → (k : ℕ)
       → gathered pools (shown pools) (opened (meant n) frames′ store′) (callsOf out (take k recorded-in))
       ≡ take k (gathered pools (shown pools) (opened n frames store) cs)
   replayed-front = recording.run-again-front n accepted frames store cs
 
   -- "For a write the record's value is byte 0 of the page after the call", as all served writes left it
-  pub recorded-byte : (page start : ℕ) (bytes : List ℕ) → verdictOf pools (afterAll pools (opened n frames store) cs) (write page start bytes) ≡ Fine
-      → valueOf pools (afterAll pools (opened n frames store) cs) page start bytes
+  pub recorded-byte : (t : Times) (page start : ℕ) (bytes : List ℕ) → verdictOf pools (afterAll pools (opened n frames store) cs) (write t page start bytes) ≡ Fine
+      → valueOf pools (afterAll pools (opened n frames store) cs) t page start bytes
       ≡ getD (laid page start bytes (history pools (opened n frames store) cs (λ p. pageOf (meant n .P) p store)) page) 0 0
   recorded-byte = recording.value-last n accepted frames store cs
 

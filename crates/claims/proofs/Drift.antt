@@ -2,6 +2,7 @@
 -- speaks of it; and a fault of a full pool says the victim that the target picks.
 -- Assumes nothing.
 use mathlib.Core.Path.{_≡_, refl, sym, ap, _∙_, subst}
+use mathlib.Core.Bool.{true}
 use mathlib.Core.List.{List, [], _∷_}
 use Prim.Native.Nat.{ℕ, _+_, _≤_, _<_}
 use native.Mathlib.Omega.{arith}
@@ -9,7 +10,8 @@ use lib.ListN.{length}
 use borrow.Author.Tests.{le-ltb}
 use Rattle.model.specs.Numbers.{Numbers, meant}
 use Rattle.model.specs.Words.{faultSays, answerSays}
-use Rattle.model.specs.Target.{Costs, Adjustment, Exact, exactZero, exactAll, Near, Bounded, FurtherThan, aboveExact}
+use Rattle.model.specs.Target.{Costs, costsOf, Adjustment, Exact, exactZero, exactAll, Near, Bounded, FurtherThan, aboveExact}
+use Rattle.model.specs.Times.{Times, timesFit}
 use Rattle.model.specs.State.{State, opened as openedState}
 use Rattle.model.specs.Refusals.{openVerdict}
 use Rattle.model.specs.Request.{locate, victimBy, chosen, taken, request, requestAt}
@@ -22,7 +24,8 @@ use Rattle.model.specs.declared.Choice.{Choice}
 use Rattle.model.specs.declared.Verdict.the-variants.{Fine}
 use Rattle.model.proofs.Drift.{target-near, exact-bounded, victim-same}
 use Rattle.model.proofs.Adjust.{Adjusted, stays, request-adjusted, flush-adjusted, drop-adjusted, adjusted-append}
-use Rattle.model.proofs.Refusals.{call-cases}
+use Rattle.model.proofs.Refusals.{call-cases, read-clear, write-clear}
+use Rattle.model.proofs.Times.{costs-right, opened-payable}
 use Rattle.model.proofs.LastWritten.{call-good}
 use Rattle.model.proofs.Framed.{framed-lawful, framed-pooled}
 use Rattle.pool.specs.Pool.{stateOf, Sound}
@@ -38,27 +41,30 @@ module _ (x : World Pool) (s : Sound (x .state)) where
   abbrev before : State
   before = stateOf (x .state)
 
-  costs-some : 0 < costsIn pools x .r + costsIn pools x .w
-  costs-some = omega (arith, s .good .limits .r-low)
+  -- a served request has costs that can be divided by
+  costs-some : (t : Times) → timesFit t ≡ true → 0 < costsIn pools x t .r + costsIn pools x t .w
+  costs-some t fits = omega (arith, costs-right t (costsOf (before .numbers)) fits (opened-payable (before .numbers) (s .good .limits)) .r-low)
 
   abbrev made-by : Call → List Adjustment
   made-by c = broughtBy pools (verdictOf pools x c) (adjusting x c)
 
   -- a refused call makes no adjustment; a served one leaves state t, and makes those that lead to it
-  moved-by : (c : Call) (t : State) → (verdictOf pools x c ≡ Fine → stateOf (left pools x c .state) ≡ t) → Adjusted before t (adjusting x c)
+  moved-by : (c : Call) (t : State) → (verdictOf pools x c ≡ Fine → stateOf (left pools x c .state) ≡ t) → (verdictOf pools x c ≡ Fine → Adjusted before t (adjusting x c))
       → Adjusted before (stateOf (after pools x c .state)) (made-by c)
   moved-by c t is a =
       call-cases pools x c (λ l. (verdictOf pools x c ≡ Fine → stateOf (l .state) ≡ t) → Adjusted before (stateOf (l .state)) (made-by c))
-      (λ y e at. rw e (stays before before refl refl)) (λ e at. rw e (subst (λ (z : State). Adjusted before z (adjusting x c)) (sym (at e)) a)) is
+      (λ y e at. rw e (stays before before refl refl)) (λ e at. rw e (subst (λ (z : State). Adjusted before z (adjusting x c)) (sym (at e)) (a e))) is
 
   call-moves : (c : Call) → Adjusted before (stateOf (after pools x c .state)) (made-by c)
-  call-moves (read q out) =
-      moved-by (read q out) _ (λ e. call-follows x s (read q out) e .0 .0) (request-adjusted Read (costsIn pools x) costs-some before q)
-  call-moves (write q start bytes) =
-      moved-by (write q start bytes) _ (λ e. call-follows x s (write q start bytes) e .0 .0) (request-adjusted Write (costsIn pools x) costs-some before q)
-  call-moves flush = moved-by flush _ (λ e. call-follows x s flush e .0) (flush-adjusted before)
-  call-moves (drop q) = moved-by (drop q) _ (λ e. call-follows x s (drop q) e .0) (drop-adjusted before q)
-  call-moves total = moved-by total _ (λ e. call-follows x s total e .0) (stays before before refl refl)
+  call-moves (read t q out) =
+      moved-by (read t q out) _ (λ e. call-follows x s (read t q out) e .0 .0)
+      (λ e. request-adjusted Read (costsIn pools x t) (costs-some t (read-clear pools x t q out e .4)) before q)
+  call-moves (write t q start bytes) =
+      moved-by (write t q start bytes) _ (λ e. call-follows x s (write t q start bytes) e .0 .0)
+      (λ e. request-adjusted Write (costsIn pools x t) (costs-some t (write-clear pools x t q start bytes e .4)) before q)
+  call-moves flush = moved-by flush _ (λ e. call-follows x s flush e .0) (λ e. flush-adjusted before)
+  call-moves (drop q) = moved-by (drop q) _ (λ e. call-follows x s (drop q) e .0) (λ e. drop-adjusted before q)
+  call-moves total = moved-by total _ (λ e. call-follows x s total e .0) (λ e. stays before before refl refl)
 
 pub run-moves : (cs : List Call) (x : World Pool) → Sound (x .state)
     → Adjusted (stateOf (x .state)) (stateOf (afterAll pools x cs .state)) (gathered pools adjusting x cs)
@@ -114,5 +120,5 @@ module _ (x : World Pool) (s : Sound (x .state)) (k : ℕ) (exact : Exact) (near
       ap (λ (p : Place). answerSays (requestAt Write c state q p .answer)) absent ∙ ap (λ (t : Choice). faultSays (taken state t .victim)) chosen-is
 
   pub victim-said : (c : Call) → Asks q c → verdictOf pools x c ≡ Fine → left pools x c .said ≡ lastSaid state (aboveExact (length (state .lists .C)) exact)
-  victim-said c (reads out) e = call-follows x s (read q out) e .0 .1 ∙ fault-says Read (costsIn pools x)
-  victim-said c (writes start bytes) e = call-follows x s (write q start bytes) e .0 .1 ∙ fault-says Write (costsIn pools x)
+  victim-said c (reads t out) e = call-follows x s (read t q out) e .0 .1 ∙ fault-says Read (costsIn pools x t)
+  victim-said c (writes t start bytes) e = call-follows x s (write t q start bytes) e .0 .1 ∙ fault-says Write (costsIn pools x t)

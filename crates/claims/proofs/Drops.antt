@@ -7,6 +7,8 @@ use Prim.Native.Nat.{ℕ, _≤_}
 use lib.ListN.{replicate}
 use Rattle.model.specs.Numbers.{Numbers, meant}
 use Rattle.model.specs.Words.{answerSays}
+use Rattle.model.specs.Target.{Costs}
+use Rattle.model.specs.Times.{Times}
 use Rattle.model.specs.State.{State, pageIn, resident}
 use Rattle.model.specs.Policy.{Outcome}
 use Rattle.model.specs.Refusals.{openVerdict}
@@ -31,10 +33,10 @@ module _ (n : Numbers) (accepted : openVerdict n ≡ Fine) (frames store : List 
   abbrev used : World Pool
   used = afterAll pools (opened n frames store) cs
 
-  pub run-cut : (q : ℕ) (out : List ℕ) → verdictOf pools used (drop q) ≡ Fine → verdictOf pools (after pools used (drop q)) (read q out) ≡ Fine
-      → left pools (after pools used (drop q)) (read q out) .out ≡ replicate (meant n .P) 0
-  run-cut q out d e =
-      drop-zeros pools pools-lawful used _ (run-drop-right n accepted frames store cs q d) q out d e
+  pub run-cut : (t : Times) (q : ℕ) (out : List ℕ) → verdictOf pools used (drop q) ≡ Fine → verdictOf pools (after pools used (drop q)) (read t q out) ≡ Fine
+      → left pools (after pools used (drop q)) (read t q out) .out ≡ replicate (meant n .P) 0
+  run-cut t q out d e =
+      drop-zeros pools pools-lawful used _ (run-drop-right n accepted frames store cs q d) t q out d e
       ∙ ap (λ (k : Numbers). replicate (k .P) 0) (run-numbers n accepted frames store cs)
 
 module _ (x : World Pool) (s : Sound (x .state)) where
@@ -49,9 +51,8 @@ module _ (x : World Pool) (s : Sound (x .state)) where
   drop-last q f here has d = ap (λ (t : State). t .lists .E) (call-follows x s (drop q) d .0) ∙ drop-tail state whole q f here has
 
   -- a request that took a frame leaves it so
-  took : (op : Op) (q f : ℕ) (E : List ℕ) (l : Left Pool) → Requested op (costsIn pools x) state q l → Takes q f E (request op (costsIn pools x) state q)
-      → Took q f E l
-  took op q f E l a r = (
+  took : (op : Op) (k : Costs) (q f : ℕ) (E : List ℕ) (l : Left Pool) → Requested op k state q l → Takes q f E (request op k state q) → Took q f E l
+  took op k q f E l a r = (
     a .1 ∙ ap answerSays (r .answer),
     subst (λ (t : State). 1 ≤ resident (t .lists) f) (sym (a .0)) (r .here),
     ap (λ (t : State). pageIn t f) (a .0) ∙ r .page,
@@ -60,7 +61,9 @@ module _ (x : World Pool) (s : Sound (x .state)) where
 
   pub last-taken : (f : ℕ) (E : List ℕ) → state .lists .E ≡ E ++ (f ∷ []) → (q : ℕ) → locate state q ≡ Absent
       → (c : Call) → Asks q c → verdictOf pools x c ≡ Fine → Took q f E (left pools x c)
-  last-taken f E e q a c (reads out) v =
-      took Read q f E (left pools x (read q out)) (call-follows x s (read q out) v .0) (tail-taken state whole Read (costsIn pools x) q f E e a)
-  last-taken f E e q a c (writes start bytes) v =
-      took Write q f E (left pools x (write q start bytes)) (call-follows x s (write q start bytes) v .0) (tail-taken state whole Write (costsIn pools x) q f E e a)
+  last-taken f E e q a c (reads t out) v =
+      let k = costsIn pools x t in
+      took Read k q f E (left pools x (read t q out)) (call-follows x s (read t q out) v .0) (tail-taken state whole Read k q f E e a)
+  last-taken f E e q a c (writes t start bytes) v =
+      let k = costsIn pools x t in
+      took Write k q f E (left pools x (write t q start bytes)) (call-follows x s (write t q start bytes) v .0) (tail-taken state whole Write k q f E e a)

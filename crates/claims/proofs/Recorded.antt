@@ -13,6 +13,7 @@ use Rattle.model.specs.Numbers.{Numbers, inLimits, onDrive, meant, usualRead, u
 use Rattle.model.specs.Moves.{History, laid}
 use Rattle.model.specs.State.{State}
 use Rattle.model.specs.Refusals.{Row, first, openVerdict, GivenBy}
+use Rattle.model.specs.Times.{Times}
 use Rattle.model.specs.Run.{Call, write, World, verdictOf, afterAll, history, gathered}
 use Rattle.model.specs.declared.Refusal.{Refusal}
 use Rattle.model.specs.declared.Refusal.the-variants.{OutOfLimits}
@@ -39,7 +40,7 @@ use Rattle.trace.proofs.Back.{encoded, recordsIn-length, recordsIn-in, distance
 use Rattle.recorder.specs.Words.{refusalSays, recorded, closed}
 use Rattle.recorder.specs.Calls.{RecorderLeft, roomFor, beginRows, addRows, closeRows, beginVerdict, addVerdict, closeVerdict}
 use Rattle.recorder.specs.Calls.{zeroRecorder, beginIf, addIf, closeIf, beginAfter, addAfter, closeAfter}
-use Rattle.recorder.specs.Runs.{Tape, tapeOf, afterAdds, afterClose, kept, Reads, valueOf, recordsOf, shown, afterRecording, callsOf}
+use Rattle.recorder.specs.Runs.{Tape, tapeOf, afterAdds, afterClose, kept, Reads, valueOf, AsOpened, recordsOf, shown, afterRecording, callsOf}
 use Rattle.recorder.specs.declared.Recorder.{Recorder}
 use Rattle.recorder.proofs.Laws.{room-roomFor, room-fewer}
 use Rattle.recorder.proofs.Round.{Wrote, begin-wrote, adds-wrote, close-wrote, close-stays, closed-reads, kept-all, kept-front}
@@ -187,7 +188,7 @@ module _ (n : Numbers) (accepted : openVerdict n ≡ Fine) where
     abbrev records : List Record
     records = gathered pools (recordsOf pools) (opened n frames store) cs
 
-    module _ (frames′ store′ out : List ℕ) (framed : length frames′ ≡ meant n .b * meant n .P) (stored : length store′ ≡ meant n .N * meant n .P)
+    module _ (unreported : AsOpened cs) (frames′ store′ out : List ℕ) (framed : length frames′ ≡ meant n .b * meant n .P) (stored : length store′ ≡ meant n .N * meant n .P)
         (fit : length out ≡ meant n .P) where
       abbrev fresh : World Pool
       fresh = opened (meant n) frames′ store′
@@ -199,14 +200,14 @@ module _ (n : Numbers) (accepted : openVerdict n ≡ Fine) where
       fresh-fits = fit ∙ sym (ap (λ (m : Numbers). m .P) meant-same) ∙ sym (ap (λ (s : State). s .numbers .P) (open-state (meant n) meant-opens frames′ store′))
 
       pub run-again : gathered pools (shown pools) (opened n frames store) cs ≡ gathered pools (shown pools) fresh (callsOf out records)
-      run-again = replay pools pools-lawful cs (opened n frames store) fresh meant-pool _ fresh-right out fresh-fits
+      run-again = replay pools pools-lawful cs unreported (opened n frames store) fresh meant-pool _ fresh-right out fresh-fits
 
       pub run-again-front : (k : ℕ)
           → gathered pools (shown pools) fresh (callsOf out (take k records)) ≡ take k (gathered pools (shown pools) (opened n frames store) cs)
-      run-again-front = replay-front pools pools-lawful cs (opened n frames store) fresh meant-pool _ fresh-right out fresh-fits
+      run-again-front = replay-front pools pools-lawful cs unreported (opened n frames store) fresh meant-pool _ fresh-right out fresh-fits
 
       pub run-again-served : length (gathered pools (shown pools) fresh (callsOf out records)) ≡ length records
-      run-again-served = replay-served pools pools-lawful cs (opened n frames store) fresh meant-pool _ fresh-right out fresh-fits
+      run-again-served = replay-served pools pools-lawful cs unreported (opened n frames store) fresh meant-pool _ fresh-right out fresh-fits
 
     -- the reader would accept them all
     records-right : RecordsIn (meant n .N) records
@@ -252,7 +253,7 @@ module _ (n : Numbers) (accepted : openVerdict n ≡ Fine) where
 
 -- ---- the value of a recorded write
 
-module _ (n : Numbers) (accepted : openVerdict n ≡ Fine) (frames store : List ℕ) (cs : List Call) (q start : ℕ) (bytes : List ℕ) where
+module _ (n : Numbers) (accepted : openVerdict n ≡ Fine) (frames store : List ℕ) (cs : List Call) (t : Times) (q start : ℕ) (bytes : List ℕ) where
   abbrev before : World Pool
   before = afterAll pools (opened n frames store) cs
 
@@ -260,5 +261,5 @@ module _ (n : Numbers) (accepted : openVerdict n ≡ Fine) (frames store : List 
   told = history pools (opened n frames store) cs (λ p. pageOf (meant n .P) p store)
 
   -- byte 0 of the page as all served writes left it, this one the last
-  pub value-last : verdictOf pools before (write q start bytes) ≡ Fine → valueOf pools before q start bytes ≡ getD (laid q start bytes told q) 0 0
-  value-last e = recorded-value pools pools-lawful before told (run-write-right n accepted frames store cs q start bytes e) q start bytes e
+  pub value-last : verdictOf pools before (write t q start bytes) ≡ Fine → valueOf pools before t q start bytes ≡ getD (laid q start bytes told q) 0 0
+  value-last e = recorded-value pools pools-lawful before told (run-write-right n accepted frames store cs t q start bytes e) t q start bytes e

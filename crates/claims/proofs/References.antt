@@ -49,12 +49,12 @@ module _ (x : World Pool) (s : Sound (x .state)) where
       (λ e at. rw e (subst (λ (z : State). Tracks before z (referencing c)) (sym (at e)) (tracks e))) is
 
   call-tracks : (c : Call) → Tracks before (stateOf (after pools x c .state)) (brought c)
-  call-tracks (read q out) =
-      tracked-by (read q out) _ (λ e. call-follows x s (read q out) e .0 .0)
-      (λ e. let a = read-clear pools x q out e in request-tracks before whole Read (costsIn pools x) q (a .2) (a .1 .more))
-  call-tracks (write q start bytes) =
-      tracked-by (write q start bytes) _ (λ e. call-follows x s (write q start bytes) e .0 .0)
-      (λ e. let a = write-clear pools x q start bytes e in request-tracks before whole Write (costsIn pools x) q (a .2) (a .1 .more))
+  call-tracks (read t q out) =
+      tracked-by (read t q out) _ (λ e. call-follows x s (read t q out) e .0 .0)
+      (λ e. let a = read-clear pools x t q out e in request-tracks before whole Read (costsIn pools x t) q (a .2) (a .1 .more))
+  call-tracks (write t q start bytes) =
+      tracked-by (write t q start bytes) _ (λ e. call-follows x s (write t q start bytes) e .0 .0)
+      (λ e. let a = write-clear pools x t q start bytes e in request-tracks before whole Write (costsIn pools x t) q (a .2) (a .1 .more))
   call-tracks flush = tracked-by flush _ (λ e. call-follows x s flush e .0) (λ e. flush-tracks before whole)
   call-tracks (drop q) = tracked-by (drop q) _ (λ e. call-follows x s (drop q) e .0) (λ e. drop-tracks before whole q)
   call-tracks total = tracked-by total _ (λ e. call-follows x s total e .0) (λ e. nothing-tracks before)

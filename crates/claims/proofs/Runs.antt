@@ -16,7 +16,8 @@ use Rattle.model.specs.Bytes.{Memory}
 use Rattle.model.specs.Moves.{Keeps}
 use Rattle.model.specs.Request.{flushed}
 use Rattle.model.specs.Refusals.{openVerdict}
-use Rattle.model.specs.Run.{Call, read, write, flush, drop, total, World, rowsOf, verdictOf, costsIn, served, left, after, afterAll, history}
+use Rattle.model.specs.Times.{Times}
+use Rattle.model.specs.Run.{Call, read, write, flush, drop, total, timesOf, World, rowsOf, verdictOf, costsIn, served, left, after, afterAll, history}
 use Rattle.model.specs.declared.Op.the-variants.{Read, Write}
 use Rattle.model.specs.declared.Verdict.the-variants.{Fine}
 use Rattle.model.proofs.Refusals.{call-cases, first-clear, not-false, read-clear, write-clear, drop-ready}
@@ -47,8 +48,8 @@ sized-stays x h c = call-cases pools x c (λ l. _≡_ {A = World Pool} (record {
 
     stays-served : (d : Call) → verdictOf pools x d ≡ Fine
         → _≡_ {A = World Pool} (record { state = served pools x d .state; memory = served pools x d .memory }) x
-    stays-served (read q out) e = clash (not-false _ (first-clear (rowsOf pools x (read q out)) e .1 .0))
-    stays-served (write q start bytes) e = clash (not-false _ (first-clear (rowsOf pools x (write q start bytes)) e .1 .0))
+    stays-served (read t q out) e = clash (not-false _ (first-clear (rowsOf pools x (read t q out)) e .1 .1 .0))
+    stays-served (write t q start bytes) e = clash (not-false _ (first-clear (rowsOf pools x (write t q start bytes)) e .1 .1 .0))
     stays-served flush e = clash (not-false _ (first-clear (rowsOf pools x flush) e .1 .0))
     stays-served (drop q) e = clash (not-false _ (first-clear (rowsOf pools x (drop q)) e .1 .0))
     stays-served total e = refl
@@ -68,11 +69,11 @@ run-sized c lends cs x e = go (sized x) refl
     go true h = h
     go false h = lends x (rw (run-stays cs x h) at e)
 
-read-sized : (q : ℕ) (out : List ℕ) → Sized (read q out)
-read-sized q out x e = not-false _ (first-clear (rowsOf pools x (read q out)) e .1 .0)
+read-sized : (t : Times) (q : ℕ) (out : List ℕ) → Sized (read t q out)
+read-sized t q out x e = not-false _ (first-clear (rowsOf pools x (read t q out)) e .1 .1 .0)
 
-write-sized : (q start : ℕ) (bytes : List ℕ) → Sized (write q start bytes)
-write-sized q start bytes x e = not-false _ (first-clear (rowsOf pools x (write q start bytes)) e .1 .0)
+write-sized : (t : Times) (q start : ℕ) (bytes : List ℕ) → Sized (write t q start bytes)
+write-sized t q start bytes x e = not-false _ (first-clear (rowsOf pools x (write t q start bytes)) e .1 .1 .0)
 
 drop-sized : (q : ℕ) → Sized (drop q)
 drop-sized q x e = not-false _ (first-clear (rowsOf pools x (drop q)) e .1 .0)
@@ -119,14 +120,14 @@ module _ (n : Numbers) (accepted : openVerdict n ≡ Fine) (frames store : List 
   run-right-by c lends cs e = run-right pools pools-lawful cs (opened n frames store) _ (sized-right (run-sized c lends cs (opened n frames store) e))
 
   -- a read that is served hands out the page as its history says
-  pub run-read : (cs : List Call) (q : ℕ) (out : List ℕ) → verdictOf pools (afterAll pools (opened n frames store) cs) (read q out) ≡ Fine
-      → left pools (afterAll pools (opened n frames store) cs) (read q out) .out ≡ history pools (opened n frames store) cs (λ p. pageOf (meant n .P) p store) q
-  run-read cs q out e =
-      last-written pools pools-lawful (afterAll pools (opened n frames store) cs) _ (run-right-by (read q out) (read-sized q out) cs e) q out e
+  pub run-read : (cs : List Call) (t : Times) (q : ℕ) (out : List ℕ) → verdictOf pools (afterAll pools (opened n frames store) cs) (read t q out) ≡ Fine
+      → left pools (afterAll pools (opened n frames store) cs) (read t q out) .out ≡ history pools (opened n frames store) cs (λ p. pageOf (meant n .P) p store) q
+  run-read cs t q out e =
+      last-written pools pools-lawful (afterAll pools (opened n frames store) cs) _ (run-right-by (read t q out) (read-sized t q out) cs e) t q out e
 
-  pub run-write-right : (cs : List Call) (q start : ℕ) (bytes : List ℕ)
-      → verdictOf pools (afterAll pools (opened n frames store) cs) (write q start bytes) ≡ Fine → Kept-so cs
-  run-write-right cs q start bytes e = run-right-by (write q start bytes) (write-sized q start bytes) cs e
+  pub run-write-right : (cs : List Call) (t : Times) (q start : ℕ) (bytes : List ℕ)
+      → verdictOf pools (afterAll pools (opened n frames store) cs) (write t q start bytes) ≡ Fine → Kept-so cs
+  run-write-right cs t q start bytes e = run-right-by (write t q start bytes) (write-sized t q start bytes) cs e
 
   pub run-drop-right : (cs : List Call) (q : ℕ) → verdictOf pools (afterAll pools (opened n frames store) cs) (drop q) ≡ Fine → Kept-so cs
   run-drop-right cs q e = run-right-by (drop q) (drop-sized q) cs e
@@ -134,16 +135,16 @@ module _ (n : Numbers) (accepted : openVerdict n ≡ Fine) (frames store : List 
 -- ---- a served call of a sound pool does what Algorithm 1 does
 
 module _ (x : World Pool) (s : Sound (x .state)) where
-  pub call-follows : (c : Call) → verdictOf pools x c ≡ Fine → Followed (costsIn pools x) (stateOf (x .state)) (x .memory) c (left pools x c)
+  pub call-follows : (c : Call) → verdictOf pools x c ≡ Fine → Followed (costsIn pools x (timesOf c)) (stateOf (x .state)) (x .memory) c (left pools x c)
   unfolding left
-  call-follows (read q out) e =
-      let a = read-clear pools x q out e in
-      let t = request-stepped (stateOf (x .state)) (record { good = s .good; blank = s .blank }) q (a .2) (a .1 .more) Read (costsIn pools x) in
-      rw e ((state-pool _ (t .good .good .placed .paged) (t .good .good .numbered .each), refl), refl, refl)
-  call-follows (write q start bytes) e =
-      let a = write-clear pools x q start bytes e in
-      let t = request-stepped (stateOf (x .state)) (record { good = s .good; blank = s .blank }) q (a .2) (a .1 .more) Write (costsIn pools x) in
-      rw e ((state-pool _ (t .good .good .placed .paged) (t .good .good .numbered .each), refl), refl)
+  call-follows (read t q out) e =
+      let a = read-clear pools x t q out e in
+      let z = request-stepped (stateOf (x .state)) (record { good = s .good; blank = s .blank }) q (a .2) (a .1 .more) Read (costsIn pools x t) in
+      rw e ((state-pool _ (z .good .good .placed .paged) (z .good .good .numbered .each), refl), refl, refl)
+  call-follows (write t q start bytes) e =
+      let a = write-clear pools x t q start bytes e in
+      let z = request-stepped (stateOf (x .state)) (record { good = s .good; blank = s .blank }) q (a .2) (a .1 .more) Write (costsIn pools x t) in
+      rw e ((state-pool _ (z .good .good .placed .paged) (z .good .good .numbered .each), refl), refl)
   call-follows flush e = rw e (state-pool (flushed (stateOf (x .state))) (s .good .placed .paged) (s .good .numbered .each), refl, refl)
   call-follows (drop q) e =
       let a = drop-ready pools x q e in

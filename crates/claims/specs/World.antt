@@ -11,6 +11,7 @@ use Rattle.pages.specs.Pages.{pageOf}
 use Rattle.model.specs.Numbers.{Numbers}
 use Rattle.model.specs.Words.{Said, flushed as saidFlushed, fault as saidFault, dropped as saidDropped, total as saidTotal, numberOf, namedBy, refusalSays, answerSays, faultSays}
 use Rattle.model.specs.Target.{Costs, Adjustment}
+use Rattle.model.specs.Times.{Times}
 use Rattle.model.specs.Counts.{totalCost}
 use Rattle.model.specs.State.{State, pageIn, resident}
 use Rattle.model.specs.Request.{victimBy, taken, request, flushed, dropped, adjustmentsOf}
@@ -62,11 +63,11 @@ abbrev pub Requested : Op → Costs → State → ℕ → Left Pool → Type 0
 Requested op k s q l = (stateOf (l .state) ≡ request op k s q .state) × (l .said ≡ answerSays (request op k s q .answer))
 
 abbrev pub Followed : Costs → State → Memory → Call → Left Pool → Type 0
-Followed k s m (read q out) l =
+Followed k s m (read t q out) l =
     Requested Read k s q l
     × (l .memory ≡ brought (s .numbers .P) (request Read k s q .frame) q (request Read k s q .answer) m)
     × (l .out ≡ pageOf (s .numbers .P) (request Read k s q .frame) (l .memory .frames))
-Followed k s m (write q start bytes) l =
+Followed k s m (write t q start bytes) l =
     Requested Write k s q l
     × (l .memory
     ≡ overlaid (s .numbers .P) (request Write k s q .frame) start bytes
@@ -78,11 +79,11 @@ Followed k s m flush l =
 Followed k s m (dropPage q) l = (stateOf (l .state) ≡ dropped s q) × (l .said ≡ saidDropped) × (l .memory ≡ wiped (s .numbers .P) q m)
 Followed k s m total l = (stateOf (l .state) ≡ s) × (l .said ≡ saidTotal (totalCost (s .numbers) (s .counts))) × (l .memory ≡ m)
 
--- ---- the adjustments of the target that a call makes, with the list sizes that the pool has then
+-- ---- the adjustments of the target that a call makes, with the costs in force and the list sizes that the pool has then
 
 abbrev pub adjusting : World Pool → Call → List Adjustment
-adjusting x (read q out) = adjustmentsOf Read (costsIn pools x) (stateOf (x .state)) q
-adjusting x (write q start bytes) = adjustmentsOf Write (costsIn pools x) (stateOf (x .state)) q
+adjusting x (read t q out) = adjustmentsOf Read (costsIn pools x t) (stateOf (x .state)) q
+adjusting x (write t q start bytes) = adjustmentsOf Write (costsIn pools x t) (stateOf (x .state)) q
 adjusting x flush = []
 adjusting x (dropPage q) = []
 adjusting x total = []
@@ -95,8 +96,8 @@ LatestFirst last s fs = (i j : ℕ) → i < j → j < length fs → last (pageIn
 -- ---- a read or a write of page q
 
 pub data Asks (q : ℕ) : Call → Type 0 where
-  reads : (out : List ℕ) → Asks q (read q out)
-  writes : (start : ℕ) (bytes : List ℕ) → Asks q (write q start bytes)
+  reads : (t : Times) (out : List ℕ) → Asks q (read t q out)
+  writes : (t : Times) (start : ℕ) (bytes : List ℕ) → Asks q (write t q start bytes)
 
 -- a call for page q leaves l: a fault without a victim, for which frame f has the page, and E of the empty frames are left
 abbrev pub Took : ℕ → ℕ → List ℕ → Left Pool → Type 0

@@ -52,6 +52,23 @@ pub fn absorb_bytes(digest: u32, bytes: &[u8]) -> u32 {
     now
 }
 
+fn absorb_time(digest: u32, time: u16) -> u32 {
+    let low = (time % 256) as u8;
+    let high = (time / 256 % 256) as u8;
+    absorb_byte(absorb_byte(digest, low), high)
+}
+
+// The times of a window, low byte first.
+pub fn absorb_times(digest: u32, times: &[u16]) -> u32 {
+    let mut now = digest;
+    let mut i = 0;
+    while i < times.len() {
+        now = absorb_time(now, times[i]);
+        i += 1;
+    }
+    now
+}
+
 // The most bytes that numbers make: those of the reference numbers of a pool.
 const MOST: usize = 256;
 

@@ -2,12 +2,14 @@
 // answers alike.
 ghost use mathlib.Core.Path.{_≡_};
 ghost use mathlib.Core.List.{[]};
+ghost use Rattle.model.specs.Times.{unmeasured, measured};
 ghost use Rattle.model.specs.Run as run;
 ghost use Rattle.casa.specs.Calls.{after, servedLeft, flushedLeft, droppedLeft};
 use casa::Served;
 use model::Answer;
 use model::Dropping;
 use model::Flushing;
+use model::Kept;
 use pool::Pool;
 
 // Reads a page into `out`. Refused: 2, 3, 4, 5, 6.
@@ -19,7 +21,7 @@ pub fn read_page_in(
     out: &mut [u8],
 ) -> Answer
     ensures { λ r. ⌜ servedLeft (record { pool = now (pool .exit); answer = r }) (now (frames .exit)) (now (store .exit)) (now (out .exit))
-        ≡ after (now (pool .entry)) (now (frames .entry)) (now (store .entry)) (run.read page (now (out .entry))) ⌝ }
+        ≡ after (now (pool .entry)) (now (frames .entry)) (now (store .entry)) (run.read unmeasured page (now (out .entry))) ⌝ }
 {
     let done = casa::read_page(*pool, page, frames, store, out);
     *pool = done.pool;
@@ -36,9 +38,44 @@ pub fn write_page_in(
     store: &mut [u8],
 ) -> Answer
     ensures { λ r. ⌜ servedLeft (record { pool = now (pool .exit); answer = r }) (now (frames .exit)) (now (store .exit)) []
-        ≡ after (now (pool .entry)) (now (frames .entry)) (now (store .entry)) (run.write page start (now (bytes .entry))) ⌝ }
+        ≡ after (now (pool .entry)) (now (frames .entry)) (now (store .entry)) (run.write unmeasured page start (now (bytes .entry))) ⌝ }
 {
     let done = casa::write_page(*pool, page, start, bytes, frames, store);
+    *pool = done.pool;
+    done.answer
+}
+
+// Reads a page into `out`, with the costs that are measured on the drive once both windows are full. Refused: 2, 13, 3, 4, 5, 6.
+pub fn read_page_measured_in(
+    pool: &mut Pool,
+    kept: Kept,
+    page: usize,
+    frames: &mut [u8],
+    store: &mut [u8],
+    out: &mut [u8],
+) -> Answer
+    ensures { λ r. ⌜ servedLeft (record { pool = now (pool .exit); answer = r }) (now (frames .exit)) (now (store .exit)) (now (out .exit))
+        ≡ after (now (pool .entry)) (now (frames .entry)) (now (store .entry)) (run.read (measured kept) page (now (out .entry))) ⌝ }
+{
+    let done = casa::read_page_measured(*pool, kept, page, frames, store, out);
+    *pool = done.pool;
+    done.answer
+}
+
+// Writes `bytes` into a page, with the same costs. Refused: 2, 13, 3, 4, 5, 6.
+pub fn write_page_measured_in(
+    pool: &mut Pool,
+    kept: Kept,
+    page: usize,
+    start: usize,
+    bytes: &[u8],
+    frames: &mut [u8],
+    store: &mut [u8],
+) -> Answer
+    ensures { λ r. ⌜ servedLeft (record { pool = now (pool .exit); answer = r }) (now (frames .exit)) (now (store .exit)) []
+        ≡ after (now (pool .entry)) (now (frames .entry)) (now (store .entry)) (run.write (measured kept) page start (now (bytes .entry))) ⌝ }
+{
+    let done = casa::write_page_measured(*pool, kept, page, start, bytes, frames, store);
     *pool = done.pool;
     done.answer
 }
@@ -72,7 +109,7 @@ pub fn read_page_own(
     out: &mut [u8],
 ) -> Served
     ensures { λ r. ⌜ servedLeft r (now (frames .exit)) (now (store .exit)) (now (out .exit)) ≡ after pool
-        (now (frames .entry)) (now (store .entry)) (run.read page (now (out .entry))) ⌝ }
+        (now (frames .entry)) (now (store .entry)) (run.read unmeasured page (now (out .entry))) ⌝ }
 {
     let mut own = pool;
     let answer = read_page_in(&mut own, page, frames, store, out);

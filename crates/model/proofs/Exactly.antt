@@ -12,6 +12,7 @@ use native.Mathlib.Omega.{arith}
 use Rattle.model.specs.Words.{answerSays, refusalSays}
 use Rattle.model.specs.Moves.{Content}
 use Rattle.model.specs.Policy.{Policy}
+use Rattle.model.specs.Times.{Times}
 use Rattle.model.specs.Refusals.{Row, verdictBy, first, GivenBy, here, later}
 use Rattle.model.specs.Run.{Call, read, write, flush, drop, total, outputOf, World, rowsOf, verdictOf, costsIn, outcomeOf, served, left, leftBy}
 use Rattle.model.specs.declared.Op.{Op}
@@ -53,10 +54,10 @@ module _ (π : Policy) (ok : Lawful π) (means : (s : π .State) → π .sound s
   refused-says e = ap (λ (v : Verdict). leftBy π v x c .said) e
 
   -- the answer to a request that may be served
-  request-says : (op : Op) (q : ℕ) {fit : Bool} → RequestClear π x q fit → answerSays (outcomeOf π op x q .answer) ≡ refusalSays y → ⊥
-  request-says op q a e =
-      right-says (ok .content (x .state)) q (outcomeOf π op x q .frame) (outcomeOf π op x q .answer)
-      (ok .request op (costsIn π x) (x .state) q (means (x .state) (a .0)) (a .2) (a .1 .more) .right) y e
+  request-says : (op : Op) (t : Times) (q : ℕ) {fit : Bool} → RequestClear π x t q fit → answerSays (outcomeOf π op x t q .answer) ≡ refusalSays y → ⊥
+  request-says op t q a e =
+      right-says (ok .content (x .state)) q (outcomeOf π op x t q .frame) (outcomeOf π op x t q .answer)
+      (ok .request op (costsIn π x t) (x .state) q (means (x .state) (a .0)) (a .2) (a .1 .more) .right) y e
 
   pub says-refused : left π x c .said ≡ refusalSays y → verdictOf π x c ≡ Refused y
   says-refused =
@@ -64,8 +65,8 @@ module _ (π : Policy) (ok : Lawful π) (means : (s : π .State) → π .sound s
       (λ h e. absurd (served-says c h e))
     where
       served-says : (d : Call) → verdictOf π x d ≡ Fine → served π x d .said ≡ refusalSays y → ⊥
-      served-says (read q out) h e = request-says Read q (read-clear π x q out h) e
-      served-says (write q start bytes) h e = request-says Write q (write-clear π x q start bytes h) e
+      served-says (read t q out) h e = request-says Read t q (read-clear π x t q out h) e
+      served-says (write t q start bytes) h e = request-says Write t q (write-clear π x t q start bytes h) e
       served-says flush h e = let z : _≡_ {A = ℕ} 0 1 = cc in omega arith
       served-says (drop q) h e = let z : _≡_ {A = ℕ} 0 1 = cc in omega arith
       served-says total h e = let z : _≡_ {A = ℕ} 0 1 = cc in omega arith

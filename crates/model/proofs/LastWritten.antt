@@ -17,6 +17,7 @@ use Rattle.model.specs.Target.{Costs}
 use Rattle.model.specs.Bytes.{Memory}
 use Rattle.model.specs.Moves.{Content, Has, without, Buffer, wipe, History, laid, cut, Keeps}
 use Rattle.model.specs.Policy.{Outcome, Policy}
+use Rattle.model.specs.Times.{Times}
 use Rattle.model.specs.Run.{Call, read, write, flush, drop, total, World}
 use Rattle.model.specs.Run.{verdictOf, costsIn, outcomeOf, broughtIn, handedOut, writtenIn, served, left, leftBy, after, afterAll, toldBy, history}
 use Rattle.model.specs.declared.Op.{Op}
@@ -65,9 +66,9 @@ module _ (π : Policy) (ok : Lawful π) where
   call-good x g c = call-cases π x c (λ l. ok .Good (l .state)) (λ y e. g) (good-served c)
     where
       good-served : (d : Call) → verdictOf π x d ≡ Fine → ok .Good (served π x d .state)
-      good-served (read q out) e = let a = read-clear π x q out e in ok .request Read (costsIn π x) (x .state) q g (a .2) (a .1 .more) .good
-      good-served (write q start bytes) e =
-          let a = write-clear π x q start bytes e in ok .request Write (costsIn π x) (x .state) q g (a .2) (a .1 .more) .good
+      good-served (read t q out) e = let a = read-clear π x t q out e in ok .request Read (costsIn π x t) (x .state) q g (a .2) (a .1 .more) .good
+      good-served (write t q start bytes) e =
+          let a = write-clear π x t q start bytes e in ok .request Write (costsIn π x t) (x .state) q g (a .2) (a .1 .more) .good
       good-served flush e = ok .flush (x .state) g (flush-ready π x e .1 .more) .good
       good-served (drop q) e = let a = drop-ready π x q e in ok .drop (x .state) q g (a .2) (a .1 .more) .good
       good-served total e = g
@@ -81,9 +82,9 @@ module _ (π : Policy) (ok : Lawful π) where
   call-numbers x g c = call-cases π x c (λ l. π .numbers (l .state) ≡ π .numbers (x .state)) (λ y e. refl) (same-served c)
     where
       same-served : (d : Call) → verdictOf π x d ≡ Fine → π .numbers (served π x d .state) ≡ π .numbers (x .state)
-      same-served (read q out) e = let a = read-clear π x q out e in ok .request Read (costsIn π x) (x .state) q g (a .2) (a .1 .more) .same
-      same-served (write q start bytes) e =
-          let a = write-clear π x q start bytes e in ok .request Write (costsIn π x) (x .state) q g (a .2) (a .1 .more) .same
+      same-served (read t q out) e = let a = read-clear π x t q out e in ok .request Read (costsIn π x t) (x .state) q g (a .2) (a .1 .more) .same
+      same-served (write t q start bytes) e =
+          let a = write-clear π x t q start bytes e in ok .request Write (costsIn π x t) (x .state) q g (a .2) (a .1 .more) .same
       same-served flush e = ok .flush (x .state) g (flush-ready π x e .1 .more) .same
       same-served (drop q) e = let a = drop-ready π x q e in ok .drop (x .state) q g (a .2) (a .1 .more) .same
       same-served total e = refl
@@ -102,15 +103,15 @@ module _ (π : Policy) (ok : Lawful π) where
 
     -- ---- a read or a write that may be served
 
-    module _ (q : ℕ) (inside : q < numbers .N) (more : π .counts (x .state) .served < mostServed) where
+    module _ (t : Times) (q : ℕ) (inside : q < numbers .N) (more : π .counts (x .state) .served < mostServed) where
       abbrev outcome : Op → Outcome (π .State)
-      outcome op = outcomeOf π op x q
+      outcome op = outcomeOf π op x t q
 
       abbrev after-op : Op → ℕ → Content
       after-op op = contentAfter op q (outcome op .frame) (outcome op .answer) (ok .content (x .state))
 
       kept : (op : Op) → Kept π (ok .Good) (ok .content) op (x .state) q (outcome op)
-      kept op = ok .request op (costsIn π x) (x .state) q (r .good) inside more
+      kept op = ok .request op (costsIn π x t) (x .state) q (r .good) inside more
 
       -- the state afterwards holds what the moves say, over the numbers that it has kept
       afterwards : (op : Op) (m : Memory) (h′ : History) → Keeps numbers (record { content = after-op op; memory = m }) h′
@@ -118,23 +119,23 @@ module _ (π : Policy) (ok : Lawful π) where
       afterwards op m h′ k =
           record { good = kept op .good; keeps = rw (kept op .same) (keeps-same numbers _ _ m h′ (λ f. sym (kept op .contents f)) k) }
 
-      read-bytes : Keeps numbers (record { content = after-op Read; memory = broughtIn π Read x q }) h
+      read-bytes : Keeps numbers (record { content = after-op Read; memory = broughtIn π x q (outcome Read) }) h
       read-bytes =
           let k = kept Read in
           read-keeps numbers buffer h (r .keeps) q (outcome Read .frame) inside (k .frame) (outcome Read .answer) (k .right) (k .victim)
 
-      read-right : Right (record { state = outcome Read .state; memory = broughtIn π Read x q }) h
-      read-right = afterwards Read (broughtIn π Read x q) h read-bytes
+      read-right : Right (record { state = outcome Read .state; memory = broughtIn π x q (outcome Read) }) h
+      read-right = afterwards Read (broughtIn π x q (outcome Read)) h read-bytes
 
-      pub read-hands-out : handedOut π x q ≡ h q
+      pub read-hands-out : handedOut π x q (outcome Read) ≡ h q
       read-hands-out =
           read-bytes .in-frame q (outcome Read .frame)
           (read-has numbers buffer h (r .keeps) q (outcome Read .frame) inside (kept Read .frame) (outcome Read .answer) (kept Read .right))
 
       write-right : (start : ℕ) (bytes : List ℕ) → start + length bytes ≤ numbers .P
-          → Right (record { state = outcome Write .state; memory = writtenIn π x q start bytes }) (laid q start bytes h)
+          → Right (record { state = outcome Write .state; memory = writtenIn π x q start bytes (outcome Write) }) (laid q start bytes h)
       write-right start bytes fit =
-          afterwards Write (writtenIn π x q start bytes) (laid q start bytes h)
+          afterwards Write (writtenIn π x q start bytes (outcome Write)) (laid q start bytes h)
           (write-keeps numbers buffer h (r .keeps) q (outcome Write .frame) inside (kept Write .frame) start bytes fit (outcome Write .answer)
           (kept Write .right) (kept Write .victim))
 
@@ -161,10 +162,10 @@ module _ (π : Policy) (ok : Lawful π) where
         (λ y e. rw e r) (λ e. rw e (right-served c e))
       where
         right-served : (d : Call) → verdictOf π x d ≡ Fine → Right (record { state = served π x d .state; memory = served π x d .memory }) (toldBy π Fine x d h)
-        right-served (read q out) e = let a = read-clear π x q out e in read-right q (a .2) (a .1 .more)
-        right-served (write q start bytes) e =
-            let a = write-clear π x q start bytes e in
-            write-right q (a .2) (a .1 .more) start bytes (stretch-fits _ start (length bytes) (a .3) .1)
+        right-served (read t q out) e = let a = read-clear π x t q out e in read-right t q (a .2) (a .1 .more)
+        right-served (write t q start bytes) e =
+            let a = write-clear π x t q start bytes e in
+            write-right t q (a .2) (a .1 .more) start bytes (stretch-fits _ start (length bytes) (a .3) .1)
         right-served flush e = flush-right (flush-ready π x e .1 .more)
         right-served (drop q) e = let a = drop-ready π x q e in drop-right q (a .2) (a .1 .more)
         right-served total e = r
@@ -173,17 +174,17 @@ module _ (π : Policy) (ok : Lawful π) where
   run-right [] x h r = r
   run-right (c ∷ cs) x h r = run-right cs (after π x c) (toldBy π (verdictOf π x c) x c h) (call-right x h r c)
 
-  pub last-written : (x : World (π .State)) (h : History) → Right x h → (q : ℕ) (out : List ℕ)
-      → verdictOf π x (read q out) ≡ Fine → left π x (read q out) .out ≡ h q
+  pub last-written : (x : World (π .State)) (h : History) → Right x h → (t : Times) (q : ℕ) (out : List ℕ)
+      → verdictOf π x (read t q out) ≡ Fine → left π x (read t q out) .out ≡ h q
   unfolding left
-  last-written x h r q out e =
-      let a = read-clear π x q out e in
-      ap (λ (v : Verdict). leftBy π v x (read q out) .out) e ∙ read-hands-out x h r q (a .2) (a .1 .more)
+  last-written x h r t q out e =
+      let a = read-clear π x t q out e in
+      ap (λ (v : Verdict). leftBy π v x (read t q out) .out) e ∙ read-hands-out x h r t q (a .2) (a .1 .more)
 
   -- a page that was dropped just before is read as zeros
-  pub drop-zeros : (x : World (π .State)) (h : History) → Right x h → (q : ℕ) (out : List ℕ) → verdictOf π x (drop q) ≡ Fine
-      → verdictOf π (after π x (drop q)) (read q out) ≡ Fine → left π (after π x (drop q)) (read q out) .out ≡ replicate (π .numbers (x .state) .P) 0
-  drop-zeros x h r q out d e =
+  pub drop-zeros : (x : World (π .State)) (h : History) → Right x h → (t : Times) (q : ℕ) (out : List ℕ) → verdictOf π x (drop q) ≡ Fine
+      → verdictOf π (after π x (drop q)) (read t q out) ≡ Fine → left π (after π x (drop q)) (read t q out) .out ≡ replicate (π .numbers (x .state) .P) 0
+  drop-zeros x h r t q out d e =
       let a = drop-ready π x q d in
-      last-written (after π x (drop q)) (cut (π .numbers (x .state) .P) q h) (rw d at (call-right x h r (drop q))) q out e
+      last-written (after π x (drop q)) (cut (π .numbers (x .state) .P) q h) (rw d at (call-right x h r (drop q))) t q out e
       ∙ cut-here (π .numbers (x .state)) _ h (r .keeps) q (a .2)

@@ -1,7 +1,8 @@
--- What follows from the definitions alone, without any code: LastWritten, Exactly, Frames and Framed for any policy, the others of CASA. Assumes nothing.
+-- What follows from the definitions alone, without any code: LastWritten, Exactly, Times, Frames and Framed for any policy, the others of CASA. Assumes nothing.
 pub mod Words
 pub mod Refusals
 pub mod Limits
+pub mod Times
 pub mod Moves
 pub mod Outcomes
 pub mod LastWritten

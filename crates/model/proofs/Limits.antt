@@ -8,13 +8,13 @@ use borrow.Author.Tests.{leb-true, le-leb, eqb-true, eq-eqb}
 use Rattle.model.specs.Numbers.{Numbers, between, inLimits, Limits, withCosts, onDrive}
 use Rattle.model.proofs.Refusals.{and-both}
 
-both-and : {s t : Bool} → s ≡ true → t ≡ true → (s && t) ≡ true
+pub both-and : {s t : Bool} → s ≡ true → t ≡ true → (s && t) ≡ true
 both-and a b = rw (a, b)
 
-between-means : (low x high : ℕ) → between low x high ≡ true → (low ≤ x) × (x ≤ high)
+pub between-means : (low x high : ℕ) → between low x high ≡ true → (low ≤ x) × (x ≤ high)
 between-means low x high e = let a = and-both _ _ e in (leb-true low x (a .0), leb-true x high (a .1))
 
-means-between : (low x high : ℕ) → low ≤ x → x ≤ high → between low x high ≡ true
+pub means-between : (low x high : ℕ) → low ≤ x → x ≤ high → between low x high ≡ true
 means-between low x high h k = both-and (le-leb low x h) (le-leb x high k)
 
 pub inLimits-limits : (n : Numbers) → inLimits n ≡ true → Limits n

@@ -8,6 +8,7 @@ use lib.ListN.{length}
 use borrow.Author.Tests.{leb-true, leb-false, lt-leb, ltb-true}
 use Rattle.pages.proofs.Memory.{sizesMatch-sound, sizesMatch-complete}
 use Rattle.model.specs.Numbers.{Numbers, mostServed}
+use Rattle.model.specs.Times.{Times, timesFit}
 use Rattle.model.specs.Refusals.{Row, verdictBy, first, brokenPool, requestRows, flushRows, dropRows, requestVerdict, flushVerdict, dropVerdict, outputFits, stretchFits, Ready}
 use Rattle.model.specs.Policy.{Policy}
 use Rattle.model.specs.Run.{Call, read, write, flush, drop, World, Left, verdictOf, served, leftBy, left}
@@ -41,16 +42,17 @@ and-both true t e = (refl, e)
 and-both false t e = let z : _≡_ {A = ℕ} 0 1 = cc in absurd (omega arith)
 
 -- of a read or a write
-pub request-clear : (sound : Bool) (a : Numbers) (served m n page : ℕ) (fit : Bool) → requestVerdict sound a served m n page fit ≡ Fine
-    → (sound ≡ true) × Ready a served m n × (page < a .N) × (fit ≡ true)
+pub request-clear : (sound timed : Bool) (a : Numbers) (served m n page : ℕ) (fit : Bool) → requestVerdict sound timed a served m n page fit ≡ Fine
+    → (sound ≡ true) × Ready a served m n × (page < a .N) × (fit ≡ true) × (timed ≡ true)
 unfolding requestVerdict
-request-clear sound a served m n page fit e =
-    let c = first-clear (brokenPool sound ∷ requestRows a served m n page fit) e in
-    let z = sizesMatch-sound (a .P) (a .b) (a .N) m n (not-false _ (c .1 .0)) in (
+request-clear sound timed a served m n page fit e =
+    let c = first-clear (brokenPool sound ∷ requestRows timed a served m n page fit) e in
+    let z = sizesMatch-sound (a .P) (a .b) (a .N) m n (not-false _ (c .1 .1 .0)) in (
       not-false sound (c .0),
-      record { frames = z .0; store = z .1; more = leb-false mostServed served (c .1 .1 .1 .1 .0) },
-      leb-false (a .N) page (c .1 .1 .0),
-      not-false fit (c .1 .1 .1 .0),
+      record { frames = z .0; store = z .1; more = leb-false mostServed served (c .1 .1 .1 .1 .1 .0) },
+      leb-false (a .N) page (c .1 .1 .1 .0),
+      not-false fit (c .1 .1 .1 .1 .0),
+      not-false timed (c .1 .0),
     )
 
 pub flush-clear : (sound : Bool) (a : Numbers) (served m n : ℕ) → flushVerdict sound a served m n ≡ Fine → (sound ≡ true) × Ready a served m n
@@ -72,12 +74,12 @@ drop-clear sound a served m n page e =
     )
 
 -- and a call of which no condition holds is served
-pub request-fine : (sound : Bool) (a : Numbers) (served m n page : ℕ) (fit : Bool) → sound ≡ true → Ready a served m n → page < a .N → fit ≡ true
-    → first (brokenPool sound ∷ requestRows a served m n page fit) ≡ Fine
-request-fine sound a served m n page fit s l inside f =
+pub request-fine : (sound timed : Bool) (a : Numbers) (served m n page : ℕ) (fit : Bool) → sound ≡ true → timed ≡ true → Ready a served m n → page < a .N
+    → fit ≡ true → first (brokenPool sound ∷ requestRows timed a served m n page fit) ≡ Fine
+request-fine sound timed a served m n page fit s t l inside f =
     let sizes = sizesMatch-complete (a .P) (a .b) (a .N) m n (l .frames) (l .store) in
-    clear-first (brokenPool sound ∷ requestRows a served m n page fit)
-    (ap not s, (ap not sizes, (lt-leb (a .N) page inside, (ap not f, (lt-leb mostServed served (l .more), tt)))))
+    clear-first (brokenPool sound ∷ requestRows timed a served m n page fit)
+    (ap not s, (ap not t, (ap not sizes, (lt-leb (a .N) page inside, (ap not f, (lt-leb mostServed served (l .more), tt))))))
 
 pub flush-fine : (sound : Bool) (a : Numbers) (served m n : ℕ) → sound ≡ true → Ready a served m n → first (brokenPool sound ∷ flushRows a served m n) ≡ Fine
 flush-fine sound a served m n s l =
@@ -112,18 +114,18 @@ module _ (π : Policy) (x : World (π .State)) where
   abbrev pub ReadyIn : Type 0
   ReadyIn = Ready (π .numbers (x .state)) (π .counts (x .state) .served) (length (x .memory .frames)) (length (x .memory .store))
 
-  -- what a request for page q that is served may count on
-  abbrev pub RequestClear : ℕ → Bool → Type 0
-  RequestClear q fit = (π .sound (x .state) ≡ true) × ReadyIn × (q < π .numbers (x .state) .N) × (fit ≡ true)
+  -- what a request for page q that is served, with the kept numbers that it takes, may count on
+  abbrev pub RequestClear : Times → ℕ → Bool → Type 0
+  RequestClear t q fit = (π .sound (x .state) ≡ true) × ReadyIn × (q < π .numbers (x .state) .N) × (fit ≡ true) × (timesFit t ≡ true)
 
-  pub read-clear : (q : ℕ) (out : List ℕ) → verdictOf π x (read q out) ≡ Fine → RequestClear q (outputFits (π .numbers (x .state) .P) (length out))
+  pub read-clear : (t : Times) (q : ℕ) (out : List ℕ) → verdictOf π x (read t q out) ≡ Fine → RequestClear t q (outputFits (π .numbers (x .state) .P) (length out))
   unfolding requestVerdict
-  read-clear q out e = request-clear (π .sound (x .state)) (π .numbers (x .state)) (π .counts (x .state) .served) _ _ q _ e
+  read-clear t q out e = request-clear (π .sound (x .state)) (timesFit t) (π .numbers (x .state)) (π .counts (x .state) .served) _ _ q _ e
 
-  pub write-clear : (q start : ℕ) (bytes : List ℕ) → verdictOf π x (write q start bytes) ≡ Fine
-      → RequestClear q (stretchFits (π .numbers (x .state) .P) start (length bytes))
+  pub write-clear : (t : Times) (q start : ℕ) (bytes : List ℕ) → verdictOf π x (write t q start bytes) ≡ Fine
+      → RequestClear t q (stretchFits (π .numbers (x .state) .P) start (length bytes))
   unfolding requestVerdict
-  write-clear q start bytes e = request-clear (π .sound (x .state)) (π .numbers (x .state)) (π .counts (x .state) .served) _ _ q _ e
+  write-clear t q start bytes e = request-clear (π .sound (x .state)) (timesFit t) (π .numbers (x .state)) (π .counts (x .state) .served) _ _ q _ e
 
   pub flush-ready : verdictOf π x flush ≡ Fine → (π .sound (x .state) ≡ true) × ReadyIn
   unfolding flushVerdict

@@ -3,12 +3,12 @@ use mathlib.Core.Path.{_≡_, refl, sym, ap, _∙_}
 use mathlib.Core.List.{List, [], _∷_}
 use Prim.Native.Nat.{ℕ}
 use lib.ListN.{getD}
-use Rattle.model.specs.Words.{Said, refused, opened, hit, fault, faultClean, faultDirty, flushed, dropped, total}
-use Rattle.model.specs.Words.{numberOf, namedBy, refusalSays, answerSays, openingSays, flushingSays, droppingSays, costingSays}
+use Rattle.model.specs.Words.{Said, refused, opened, hit, fault, faultClean, faultDirty, flushed, dropped, total, noted}
+use Rattle.model.specs.Words.{numberOf, namedBy, refusalSays, answerSays, openingSays, flushingSays, droppingSays, costingSays, timingSays}
 use Rattle.model.specs.declared.Victim.the-variants.{None, Clean, Dirty}
 use Rattle.model.specs.declared.Refusal.{Refusal}
 use Rattle.model.specs.declared.Refusal.the-variants.{OutOfLimits, BrokenPool, WrongMemory, NoSuchPage, WrongBytes, Spent}
-use Rattle.model.specs.declared.Refusal.the-variants.{NotATrace, BadRecord, LongFile, LargePool, NoRoom}
+use Rattle.model.specs.declared.Refusal.the-variants.{NotATrace, BadRecord, LongFile, LargePool, NoRoom, ZeroTime, BrokenWindows}
 use Rattle.model.specs.declared.Answer.{Answer}
 use Rattle.model.specs.declared.Answer.the-variants as answer
 use Rattle.model.specs.declared.Opening.{Opening}
@@ -19,6 +19,8 @@ use Rattle.model.specs.declared.Dropping.{Dropping}
 use Rattle.model.specs.declared.Dropping.the-variants as dropping
 use Rattle.model.specs.declared.Costing.{Costing}
 use Rattle.model.specs.declared.Costing.the-variants as costing
+use Rattle.model.specs.declared.Timing.{Timing}
+use Rattle.model.specs.declared.Timing.the-variants as timing
 
 -- a function that has a way back takes no two values to one
 one-to-one : {A B : Type 0} (f : A → B) (back : B → A) → ((x : A) → back (f x) ≡ x) → (x y : A) → f x ≡ f y → x ≡ y
@@ -28,7 +30,7 @@ one-to-one f back home x y e = sym (home x) ∙ ap back e ∙ home y
 
 abbrev refusalBy : ℕ → List ℕ → Refusal
 refusalBy n ks =
-    let from-7 = NotATrace ∷ BadRecord (getD ks 0 0) ∷ LongFile ∷ LargePool ∷ NoRoom ∷ [] in
+    let from-7 = NotATrace ∷ BadRecord (getD ks 0 0) ∷ LongFile ∷ LargePool ∷ NoRoom ∷ ZeroTime ∷ BrokenWindows ∷ [] in
     getD (Spent ∷ OutOfLimits ∷ BrokenPool ∷ WrongMemory ∷ NoSuchPage ∷ WrongBytes ∷ Spent ∷ from-7) n Spent
 
 refusal-home : (x : Refusal) → refusalBy (numberOf x) (namedBy x) ≡ x
@@ -43,6 +45,8 @@ refusal-home (BadRecord k) = refl
 refusal-home LongFile = refl
 refusal-home LargePool = refl
 refusal-home NoRoom = refl
+refusal-home ZeroTime = refl
+refusal-home BrokenWindows = refl
 
 -- what is said, by what to make of a refusal, of a flush and of a total, and of all else
 abbrev heard : {A : Type 0} → (Refusal → A) → (ℕ → A) → (ℕ → A) → A → Said → A
@@ -50,6 +54,7 @@ heard refuse flush sum other (refused n ks) = refuse (refusalBy n ks)
 heard refuse flush sum other (flushed n) = flush n
 heard refuse flush sum other (total n) = sum n
 heard refuse flush sum other dropped = other
+heard refuse flush sum other noted = other
 heard refuse flush sum other opened = other
 heard refuse flush sum other hit = other
 heard refuse flush sum other fault = other
@@ -74,6 +79,7 @@ answerIn (faultDirty q) = answer.Fault (Dirty q)
 answerIn (flushed n) = answer.Hit
 answerIn dropped = answer.Hit
 answerIn (total n) = answer.Hit
+answerIn noted = answer.Hit
 
 answer-home : (x : Answer) → answerIn (answerSays x) ≡ x
 answer-home (answer.Refused x) = ap answer.Refused (refusal-home x)
@@ -128,3 +134,15 @@ costing-home (costing.Total n) = refl
 
 pub costing-one-to-one : (x y : Costing) → costingSays x ≡ costingSays y → x ≡ y
 costing-one-to-one = one-to-one costingSays costingIn costing-home
+
+-- ---- a report, and the start of two windows
+
+abbrev timingIn : Said → Timing
+timingIn = heard timing.Refused (λ n. timing.Noted) (λ n. timing.Noted) timing.Noted
+
+timing-home : (x : Timing) → timingIn (timingSays x) ≡ x
+timing-home (timing.Refused x) = ap timing.Refused (refusal-home x)
+timing-home timing.Noted = refl
+
+pub timing-one-to-one : (x y : Timing) → timingSays x ≡ timingSays y → x ≡ y
+timing-one-to-one = one-to-one timingSays timingIn timing-home

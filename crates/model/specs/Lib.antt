@@ -1,6 +1,7 @@
 pub mod Numbers
 pub mod Words
 pub mod Target
+pub mod Times
 pub mod Counts
 pub mod Bytes
 pub mod Moves

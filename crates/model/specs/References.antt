@@ -16,8 +16,8 @@ pub data Reference : Type 0 where
 
 -- a flush or a drop is a served call that references no page; a total is no served call
 abbrev pub referencing : Call → List Reference
-referencing (read q out) = page q ∷ []
-referencing (write q start bytes) = page q ∷ []
+referencing (read t q out) = page q ∷ []
+referencing (write t q start bytes) = page q ∷ []
 referencing flush = none ∷ []
 referencing (drop q) = none ∷ []
 referencing total = []

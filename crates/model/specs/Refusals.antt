@@ -8,7 +8,7 @@ use lib.Dec.{leb, ltb, eqb}
 use Rattle.pages.specs.Memory.{sizesMatch}
 use Rattle.model.specs.Numbers.{Numbers, inLimits, meant, mostServed}
 use Rattle.model.specs.declared.Refusal.{Refusal}
-use Rattle.model.specs.declared.Refusal.the-variants.{OutOfLimits, BrokenPool, WrongMemory, NoSuchPage, WrongBytes, Spent}
+use Rattle.model.specs.declared.Refusal.the-variants.{OutOfLimits, BrokenPool, BrokenWindows, WrongMemory, NoSuchPage, WrongBytes, Spent}
 use Rattle.model.specs.declared.Verdict.{Verdict}
 use Rattle.model.specs.declared.Verdict.the-variants.{Fine, Refused}
 
@@ -38,6 +38,9 @@ outOfLimits n = record { when = not (inLimits n); why = OutOfLimits }
 abbrev pub brokenPool : Bool → Row
 brokenPool sound = record { when = not sound; why = BrokenPool }
 
+abbrev pub brokenWindows : Bool → Row
+brokenWindows fit = record { when = not fit; why = BrokenWindows }
+
 -- m bytes of frame memory and n of store are lent
 abbrev pub wrongMemory : Numbers → ℕ → ℕ → Row
 wrongMemory a m n = record { when = not (sizesMatch (a .P) (a .b) (a .N) m n); why = WrongMemory }
@@ -63,9 +66,10 @@ stretchFits P start n = ltb 0 n && leb (start + n) P
 abbrev pub openRows : Numbers → List Row
 openRows n = outOfLimits (meant n) ∷ []
 
--- of a read or a write, behind 2: the pool's numbers and served calls, the bytes lent, the page, whether the caller's bytes fit
-abbrev pub requestRows : Numbers → ℕ → ℕ → ℕ → ℕ → Bool → List Row
-requestRows a served m n page fit = wrongMemory a m n ∷ noSuchPage a page ∷ wrongBytes fit ∷ spent served ∷ []
+-- of a read or a write, behind 2: whether the kept numbers fit, if it takes any ("13, after 2"), the pool's numbers and served calls, the bytes lent, the page,
+-- whether the caller's bytes fit
+abbrev pub requestRows : Bool → Numbers → ℕ → ℕ → ℕ → ℕ → Bool → List Row
+requestRows timed a served m n page fit = brokenWindows timed ∷ wrongMemory a m n ∷ noSuchPage a page ∷ wrongBytes fit ∷ spent served ∷ []
 
 abbrev pub flushRows : Numbers → ℕ → ℕ → ℕ → List Row
 flushRows a served m n = wrongMemory a m n ∷ spent served ∷ []
@@ -77,8 +81,8 @@ dropRows a served m n page = wrongMemory a m n ∷ noSuchPage a page ∷ spent s
 unfoldable pub openVerdict : Numbers → Verdict
 openVerdict n = first (openRows n)
 
-unfoldable pub requestVerdict : Bool → Numbers → ℕ → ℕ → ℕ → ℕ → Bool → Verdict
-requestVerdict sound a served m n page fit = first (brokenPool sound ∷ requestRows a served m n page fit)
+unfoldable pub requestVerdict : Bool → Bool → Numbers → ℕ → ℕ → ℕ → ℕ → Bool → Verdict
+requestVerdict sound timed a served m n page fit = first (brokenPool sound ∷ requestRows timed a served m n page fit)
 
 unfoldable pub flushVerdict : Bool → Numbers → ℕ → ℕ → ℕ → Verdict
 flushVerdict sound a served m n = first (brokenPool sound ∷ flushRows a served m n)

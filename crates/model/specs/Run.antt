@@ -10,6 +10,7 @@ use lib.ListN.{length}
 use Rattle.pages.specs.Pages.{pageOf}
 use Rattle.model.specs.Words.{Said, flushed as saidFlushed, dropped as saidDropped, total as saidTotal, answerSays, refusalSays}
 use Rattle.model.specs.Target.{Costs, costsOf}
+use Rattle.model.specs.Times.{Times, unmeasured, timesFit, inForce}
 use Rattle.model.specs.Counts.{totalCost}
 use Rattle.model.specs.Policy.{Outcome, Policy}
 use Rattle.model.specs.Refusals.{Row, first, brokenPool, requestRows, flushRows, dropRows, outputFits, stretchFits}
@@ -21,10 +22,10 @@ use Rattle.model.specs.declared.Verdict.{Verdict}
 use Rattle.model.specs.declared.Verdict.the-variants.{Fine, Refused}
 
 pub data Call : Type 0 where
-  -- the page, and the output as it is lent
-  read : ℕ → List ℕ → Call
-  -- the page, where the stretch starts, and its bytes
-  write : ℕ → ℕ → List ℕ → Call
+  -- the kept numbers that it takes, if any; the page, and the output as it is lent
+  read : Times → ℕ → List ℕ → Call
+  -- those too; the page, where the stretch starts, and its bytes
+  write : Times → ℕ → ℕ → List ℕ → Call
   flush : Call
   -- the page
   drop : ℕ → Call
@@ -32,11 +33,19 @@ pub data Call : Type 0 where
 
 -- the output that is lent to a call
 abbrev pub outputOf : Call → List ℕ
-outputOf (read q out) = out
-outputOf (write q start bytes) = []
+outputOf (read t q out) = out
+outputOf (write t q start bytes) = []
 outputOf flush = []
 outputOf (drop q) = []
 outputOf total = []
+
+-- a flush, a drop and a total make no step of the target, and take none
+abbrev pub timesOf : Call → Times
+timesOf (read t q out) = t
+timesOf (write t q start bytes) = t
+timesOf flush = unmeasured
+timesOf (drop q) = unmeasured
+timesOf total = unmeasured
 
 -- a pool with the frame memory and the store that are lent to its calls, and nobody else touches
 pub record World (S : Type 0) : Type 0 where
@@ -55,11 +64,11 @@ module _ (π : Policy) where
 
   -- behind 2, which every call may be refused
   abbrev pub furtherRows : World (π .State) → Call → List Row
-  furtherRows x (read q out) =
-      requestRows (π .numbers (x .state)) (π .counts (x .state) .served) (length (x .memory .frames)) (length (x .memory .store)) q
+  furtherRows x (read t q out) =
+      requestRows (timesFit t) (π .numbers (x .state)) (π .counts (x .state) .served) (length (x .memory .frames)) (length (x .memory .store)) q
       (outputFits (π .numbers (x .state) .P) (length out))
-  furtherRows x (write q start bytes) =
-      requestRows (π .numbers (x .state)) (π .counts (x .state) .served) (length (x .memory .frames)) (length (x .memory .store)) q
+  furtherRows x (write t q start bytes) =
+      requestRows (timesFit t) (π .numbers (x .state)) (π .counts (x .state) .served) (length (x .memory .frames)) (length (x .memory .store)) q
       (stretchFits (π .numbers (x .state) .P) start (length bytes))
   furtherRows x flush = flushRows (π .numbers (x .state)) (π .counts (x .state) .served) (length (x .memory .frames)) (length (x .memory .store))
   furtherRows x (drop q) = dropRows (π .numbers (x .state)) (π .counts (x .state) .served) (length (x .memory .frames)) (length (x .memory .store)) q
@@ -73,42 +82,37 @@ module _ (π : Policy) where
 
   -- ---- a request that is served
 
-  -- the costs in force: those that the pool was opened with
-  abbrev pub costsIn : World (π .State) → Costs
-  costsIn x = costsOf (π .numbers (x .state))
+  -- the costs in force
+  abbrev pub costsIn : World (π .State) → Times → Costs
+  costsIn x t = inForce t (costsOf (π .numbers (x .state)))
 
-  abbrev pub outcomeOf : Op → World (π .State) → ℕ → Outcome (π .State)
-  outcomeOf op x q = π .request op (costsIn x) (x .state) q
+  abbrev pub outcomeOf : Op → World (π .State) → Times → ℕ → Outcome (π .State)
+  outcomeOf op x t q = π .request op (costsIn x t) (x .state) q
 
-  -- the bytes once page q is in its frame
-  abbrev pub broughtIn : Op → World (π .State) → ℕ → Memory
-  broughtIn op x q = brought (π .numbers (x .state) .P) (outcomeOf op x q .frame) q (outcomeOf op x q .answer) (x .memory)
+  -- ---- of a request for page q whose outcome is o: the bytes once the page is in its frame
+
+  abbrev pub broughtIn : World (π .State) → ℕ → Outcome (π .State) → Memory
+  broughtIn x q o = brought (π .numbers (x .state) .P) (o .frame) q (o .answer) (x .memory)
 
   -- "A read then copies the page to the output."
-  abbrev pub handedOut : World (π .State) → ℕ → List ℕ
-  handedOut x q = pageOf (π .numbers (x .state) .P) (outcomeOf Read x q .frame) (broughtIn Read x q .frames)
+  abbrev pub handedOut : World (π .State) → ℕ → Outcome (π .State) → List ℕ
+  handedOut x q o = pageOf (π .numbers (x .state) .P) (o .frame) (broughtIn x q o .frames)
 
   -- "A write replaces only the named stretch in the frame."
-  abbrev pub writtenIn : World (π .State) → ℕ → ℕ → List ℕ → Memory
-  writtenIn x q start bytes = overlaid (π .numbers (x .state) .P) (outcomeOf Write x q .frame) start bytes (broughtIn Write x q)
+  abbrev pub writtenIn : World (π .State) → ℕ → ℕ → List ℕ → Outcome (π .State) → Memory
+  writtenIn x q start bytes o = overlaid (π .numbers (x .state) .P) (o .frame) start bytes (broughtIn x q o)
+
+  abbrev pub readBy : World (π .State) → ℕ → Outcome (π .State) → Left (π .State)
+  readBy x q o = record { state = o .state; said = answerSays (o .answer); memory = broughtIn x q o; out = handedOut x q o }
+
+  abbrev pub writtenBy : World (π .State) → ℕ → ℕ → List ℕ → Outcome (π .State) → Left (π .State)
+  writtenBy x q start bytes o = record { state = o .state; said = answerSays (o .answer); memory = writtenIn x q start bytes o; out = [] }
 
   -- ---- what a call leaves
 
   abbrev pub served : World (π .State) → Call → Left (π .State)
-  served x (read q out) =
-      record {
-        state = outcomeOf Read x q .state;
-        said = answerSays (outcomeOf Read x q .answer);
-        memory = broughtIn Read x q;
-        out = handedOut x q;
-      }
-  served x (write q start bytes) =
-      record {
-        state = outcomeOf Write x q .state;
-        said = answerSays (outcomeOf Write x q .answer);
-        memory = writtenIn x q start bytes;
-        out = [];
-      }
+  served x (read t q out) = readBy x q (outcomeOf Read x t q)
+  served x (write t q start bytes) = writtenBy x q start bytes (outcomeOf Write x t q)
   served x flush =
       record {
         state = π .flushed (x .state);
@@ -141,8 +145,8 @@ module _ (π : Policy) where
   -- a served write is laid over its page, a served drop cuts it, and nothing else counts
   abbrev pub toldBy : Verdict → World (π .State) → Call → History → History
   toldBy (Refused y) x c h = h
-  toldBy Fine x (read q out) h = h
-  toldBy Fine x (write q start bytes) h = laid q start bytes h
+  toldBy Fine x (read t q out) h = h
+  toldBy Fine x (write t q start bytes) h = laid q start bytes h
   toldBy Fine x flush h = h
   toldBy Fine x (drop q) h = cut (π .numbers (x .state) .P) q h
   toldBy Fine x total h = h

@@ -10,6 +10,7 @@ use Rattle.model.specs.Bytes.{Memory}
 use Rattle.model.specs.State.{State, opened, withTarget, pageIn}
 use Rattle.model.specs.Target.{Costs, costs}
 use Rattle.model.specs.Request.{states, request}
+use Rattle.model.specs.Times.{unmeasured}
 use Rattle.model.specs.Run.{World, Call, read, write, flush, outcomeOf, served}
 use Rattle.model.specs.declared.Op.{Op}
 use Rattle.model.specs.declared.Op.the-variants.{Read, Write}
@@ -39,8 +40,8 @@ rowOf a before byte s =
 
 -- the call that it asks, on pages of 16 bytes, and the world after it
 abbrev pub callOf : Record → Call
-callOf (R q) = read q (replicate 16 0)
-callOf (W q v) = write q 0 (v ∷ [])
+callOf (R q) = read unmeasured q (replicate 16 0)
+callOf (W q v) = write unmeasured q 0 (v ∷ [])
 callOf F = flush
 
 abbrev pub next : World State → Record → World State
@@ -52,8 +53,8 @@ afterRecords x (r ∷ rs) = afterRecords (next x r) rs
 
 -- byte 0 of the frame that served a request, in the bytes that it left
 abbrev pub byteIn : World State → Record → Memory → List ℕ
-byteIn x (R q) m = getD (pageOf 16 (outcomeOf states Read x q .frame) (m .frames)) 0 0 ∷ []
-byteIn x (W q v) m = getD (pageOf 16 (outcomeOf states Write x q .frame) (m .frames)) 0 0 ∷ []
+byteIn x (R q) m = getD (pageOf 16 (outcomeOf states Read x unmeasured q .frame) (m .frames)) 0 0 ∷ []
+byteIn x (W q v) m = getD (pageOf 16 (outcomeOf states Write x unmeasured q .frame) (m .frames)) 0 0 ∷ []
 byteIn x F m = []
 
 abbrev pub rows : World State → List Record → List Row
@@ -108,8 +109,8 @@ worked =
       listing = rows (start 1 3) listing;
       end = s .counts .nR ∷ s .counts .nW ∷ totalCost (s .numbers) (s .counts) ∷ [];
       climb = rows (start 3 1) climb;
-      takes = 65536 - outcomeOf states Write (record { state = balanced; memory = start 1 2 .memory }) 1 .state .target;
-      adds = outcomeOf states Read (record { state = balanced; memory = start 1 2 .memory }) 0 .state .target - 65536;
+      takes = 65536 - outcomeOf states Write (record { state = balanced; memory = start 1 2 .memory }) unmeasured 1 .state .target;
+      adds = outcomeOf states Read (record { state = balanced; memory = start 1 2 .memory }) unmeasured 0 .state .target - 65536;
       halfUp = halfFrom Read 0 0 ∷ halfFrom Read 0 131070 ∷ halfFrom Read 0 131071 ∷ [];
       halfDown = halfFrom Write 1 131072 ∷ halfFrom Write 1 65535 ∷ halfFrom Write 1 65534 ∷ [];
     }

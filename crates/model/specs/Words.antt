@@ -6,7 +6,7 @@ use Rattle.model.specs.declared.Victim.{Victim}
 use Rattle.model.specs.declared.Victim.the-variants.{None, Clean, Dirty}
 use Rattle.model.specs.declared.Refusal.{Refusal}
 use Rattle.model.specs.declared.Refusal.the-variants.{OutOfLimits, BrokenPool, WrongMemory, NoSuchPage, WrongBytes, Spent}
-use Rattle.model.specs.declared.Refusal.the-variants.{NotATrace, BadRecord, LongFile, LargePool, NoRoom}
+use Rattle.model.specs.declared.Refusal.the-variants.{NotATrace, BadRecord, LongFile, LargePool, NoRoom, ZeroTime, BrokenWindows}
 use Rattle.model.specs.declared.Answer.{Answer}
 use Rattle.model.specs.declared.Answer.the-variants as answer
 use Rattle.model.specs.declared.Opening.{Opening}
@@ -17,6 +17,8 @@ use Rattle.model.specs.declared.Dropping.{Dropping}
 use Rattle.model.specs.declared.Dropping.the-variants as dropping
 use Rattle.model.specs.declared.Costing.{Costing}
 use Rattle.model.specs.declared.Costing.the-variants as costing
+use Rattle.model.specs.declared.Timing.{Timing}
+use Rattle.model.specs.declared.Timing.the-variants as timing
 
 -- what an answer says, in the scope's words and numbers
 pub data Said : Type 0 where
@@ -33,6 +35,7 @@ pub data Said : Type 0 where
   dropped : Said
   -- nR × r + nW × w
   total : ℕ → Said
+  noted : Said
 
 abbrev pub numberOf : Refusal → ℕ
 numberOf OutOfLimits = 1
@@ -46,6 +49,8 @@ numberOf (BadRecord k) = 8
 numberOf LongFile = 9
 numberOf LargePool = 10
 numberOf NoRoom = 11
+numberOf ZeroTime = 12
+numberOf BrokenWindows = 13
 
 abbrev pub namedBy : Refusal → List ℕ
 namedBy OutOfLimits = []
@@ -59,6 +64,8 @@ namedBy (BadRecord k) = k ∷ []
 namedBy LongFile = []
 namedBy LargePool = []
 namedBy NoRoom = []
+namedBy ZeroTime = []
+namedBy BrokenWindows = []
 
 abbrev pub refusalSays : Refusal → Said
 refusalSays x = refused (numberOf x) (namedBy x)
@@ -88,3 +95,7 @@ droppingSays dropping.Dropped = dropped
 abbrev pub costingSays : Costing → Said
 costingSays (costing.Refused x) = refusalSays x
 costingSays (costing.Total n) = total n
+
+abbrev pub timingSays : Timing → Said
+timingSays (timing.Refused x) = refusalSays x
+timingSays timing.Noted = noted

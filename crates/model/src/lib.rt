@@ -52,6 +52,8 @@ pub enum Refusal {
     LongFile,
     LargePool,
     NoRoom,
+    ZeroTime,
+    BrokenWindows,
 }
 
 // Whether something is refused, before anything is done.
@@ -91,6 +93,26 @@ pub enum Costing {
     Total(u64),
 }
 
+// What the start of two windows and a report answer: there is no further answer.
+pub enum Timing {
+    Refused(Refusal),
+    Noted,
+}
+
+// What is kept of a window of times: how many of its places are filled, which comes next, and the sum of its times.
+pub struct Window {
+    pub fill: usize,
+    pub next: usize,
+    pub sum: u64,
+}
+
+// What is kept of the two windows of `n` times, those of physical reads and those of physical writes.
+pub struct Kept {
+    pub n: usize,
+    pub reads: Window,
+    pub writes: Window,
+}
+
 // The scope's number of a refusal.
 pub fn number_of(why: Refusal) -> u64
     ensures { λ r. ⌜ r ≡ numberOf why ⌝ }
@@ -107,6 +129,8 @@ pub fn number_of(why: Refusal) -> u64
         Refusal::LongFile => 9,
         Refusal::LargePool => 10,
         Refusal::NoRoom => 11,
+        Refusal::ZeroTime => 12,
+        Refusal::BrokenWindows => 13,
     }
 }
 

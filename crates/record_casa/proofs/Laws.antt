@@ -13,6 +13,7 @@ use Rattle.model.specs.Numbers.{Numbers}
 use Rattle.model.specs.State.{State}
 use Rattle.model.specs.Request.{chosen, taken, request, requestAt, locate}
 use Rattle.model.specs.Target.{Costs}
+use Rattle.model.specs.Times.{unmeasured}
 use Rattle.model.specs.Run.{Call, write, World, Left, verdictOf, costsIn, outcomeOf, writtenIn, served, leftBy, left}
 use Rattle.model.specs.declared.Op.the-variants.{Write}
 use Rattle.model.specs.declared.Place.{Place}
@@ -124,33 +125,34 @@ module _ (p : Pool) (F S : List ℕ) (q start : ℕ) (bytes : List ℕ) where
   world = worldOf p F S
 
   abbrev call : Call
-  call = write q start bytes
+  call = write unmeasured q start bytes
 
   -- what a served write left: its pool and its frame memory give the record
   pub written-is : (r : Served) (F′ S′ : List ℕ) → servedLeft r F′ S′ [] ≡ after p F S call → verdictOf pools world call ≡ Fine
-      → writtenRecord (r .pool) q F′ ≡ record-of.Write q (valueOf pools world q start bytes)
+      → writtenRecord (r .pool) q F′ ≡ record-of.Write q (valueOf pools world unmeasured q start bytes)
   unfolding left
   written-is r F′ S′ e fine =
       let l : servedLeft r F′ S′ [] ≡ served pools world call = e ∙ ap (λ (v : Verdict). leftBy pools v world call) fine in
       let state = stateOf p in
-      let k = costsIn pools world in
+      let k = costsIn pools world unmeasured in
       let pool : r .pool ≡ poolOf (request Write k state q .state) = ap (λ (z : Left Pool). z .state) l in
       let size : r .pool .«page_bytes» ≡ p .«page_bytes» = ap (λ (z : Pool). z .«page_bytes») pool ∙ written-size k state q (locate state q) in
-      let frame : getD (r .pool .dirty) 0 0 ≡ outcomeOf pools Write world q .frame =
+      let o = outcomeOf pools Write world unmeasured q in
+      let frame : getD (r .pool .dirty) 0 0 ≡ o .frame =
       ap (λ (z : Pool). getD (z .dirty) 0 0) pool ∙ written-first k state q (locate state q) in
-      let low = sound-is p (write-clear pools world q start bytes fine .0) .good .limits .P-low in
-      let frames : F′ ≡ writtenIn pools world q start bytes .frames = ap (λ (z : Left Pool). z .memory .frames) l in
-      let value = pageOf-first (p .«page_bytes») (outcomeOf pools Write world q .frame) (writtenIn pools world q start bytes .frames) (omega (arith, low)) in
+      let low = sound-is p (write-clear pools world unmeasured q start bytes fine .0) .good .limits .P-low in
+      let frames : F′ ≡ writtenIn pools world q start bytes o .frames = ap (λ (z : Left Pool). z .memory .frames) l in
+      let value = pageOf-first (p .«page_bytes») (o .frame) (writtenIn pools world q start bytes o .frames) (omega (arith, low)) in
       (λ i. record-of.Write q (getD (frames i) (frame i * size i) 0)) ∙ ap (record-of.Write q) (sym value)
 
   -- what a refused one left is not recorded
   pub written-recorded : (r : Served) (F′ S′ : List ℕ) → servedLeft r F′ S′ [] ≡ after p F S call → (x : Tape)
       → recordedBy (callVerdict p F S call) (writtenRecord (r .pool) q F′) x
-      ≡ recordedBy (callVerdict p F S call) (record-of.Write q (valueOf pools world q start bytes)) x
+      ≡ recordedBy (callVerdict p F S call) (record-of.Write q (valueOf pools world unmeasured q start bytes)) x
   unfolding callVerdict
   written-recorded r F′ S′ e x = go (verdictOf pools world call) refl
     where
       go : (v : Verdict) → verdictOf pools world call ≡ v
-          → recordedBy v (writtenRecord (r .pool) q F′) x ≡ recordedBy v (record-of.Write q (valueOf pools world q start bytes)) x
+          → recordedBy v (writtenRecord (r .pool) q F′) x ≡ recordedBy v (record-of.Write q (valueOf pools world unmeasured q start bytes)) x
       go (Refused y) k = refl
       go Fine k = ap (λ (w : Record). recordedBy Fine w x) (written-is r F′ S′ e k)

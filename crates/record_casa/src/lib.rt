@@ -4,6 +4,7 @@ ghost use mathlib.Core.Path.{_≡_};
 ghost use mathlib.Core.List.{[]};
 ghost use Prim.Native.Nat.{_*_};
 ghost use lib.ListN.{getD};
+ghost use Rattle.model.specs.Times.{unmeasured};
 ghost use Rattle.model.specs.Run as run;
 ghost use Rattle.pool.specs.Pool.{numbersIn};
 ghost use Rattle.casa.specs.Calls.{pools, after, worldOf, servedLeft, flushedLeft, droppedLeft};
@@ -97,9 +98,9 @@ pub fn read_page(
     buffer: &mut [u8],
 ) -> Noted
     ensures { λ r. ⌜ servedLeft (r .served) (now (frames .exit)) (now (store .exit)) (now (out .exit))
-        ≡ after pool (now (frames .entry)) (now (store .entry)) (run.read page (now (out .entry))) ⌝ }
+        ≡ after pool (now (frames .entry)) (now (store .entry)) (run.read unmeasured page (now (out .entry))) ⌝ }
     ensures { λ r. ⌜ recordedLeft (r .recorded) (now (buffer .exit))
-        ≡ recordedBy (callVerdict pool (now (frames .entry)) (now (store .entry)) (run.read page (now (out .entry)))) (Read page)
+        ≡ recordedBy (callVerdict pool (now (frames .entry)) (now (store .entry)) (run.read unmeasured page (now (out .entry)))) (Read page)
         (tape recorder (now (buffer .entry))) ⌝ }
 {
     let served = casa::read_page(pool, page, frames, store, out);
@@ -120,10 +121,10 @@ pub fn write_page(
     buffer: &mut [u8],
 ) -> Noted
     ensures { λ r. ⌜ servedLeft (r .served) (now (frames .exit)) (now (store .exit)) []
-        ≡ after pool (now (frames .entry)) (now (store .entry)) (run.write page start (now (bytes .entry))) ⌝ }
+        ≡ after pool (now (frames .entry)) (now (store .entry)) (run.write unmeasured page start (now (bytes .entry))) ⌝ }
     ensures { λ r. ⌜ recordedLeft (r .recorded) (now (buffer .exit))
-        ≡ recordedBy (callVerdict pool (now (frames .entry)) (now (store .entry)) (run.write page start (now (bytes .entry))))
-        (Write page (valueOf pools (worldOf pool (now (frames .entry)) (now (store .entry))) page start (now (bytes .entry))))
+        ≡ recordedBy (callVerdict pool (now (frames .entry)) (now (store .entry)) (run.write unmeasured page start (now (bytes .entry))))
+        (Write page (valueOf pools (worldOf pool (now (frames .entry)) (now (store .entry))) unmeasured page start (now (bytes .entry))))
         (tape recorder (now (buffer .entry))) ⌝ }
 {
     let served = casa::write_page(pool, page, start, bytes, frames, store);

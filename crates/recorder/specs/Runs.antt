@@ -5,8 +5,10 @@
 --     afterRecording       a run of calls that are served and recorded
 --     callOf               the call that a record stands for
 --     shown                what a run shows of a served call
+--     AsOpened             calls that had the opened costs, or were refused for their kept numbers
 -- Assumes nothing.
 use mathlib.Core.Path.{_≡_}
+use mathlib.Core.Bool.{true}
 use mathlib.Core.List.{List, [], _∷_, _++_}
 use Prim.Native.Nat.{ℕ}
 use lib.ListN.{length, getD}
@@ -14,7 +16,8 @@ use Rattle.pages.specs.Pages.{pageOf}
 use Rattle.model.specs.Numbers.{Numbers}
 use Rattle.model.specs.Words.{Said}
 use Rattle.model.specs.Policy.{Policy}
-use Rattle.model.specs.Run.{Call, read, write, flush, drop, total, World, verdictOf, outcomeOf, writtenIn, left, after}
+use Rattle.model.specs.Times.{Times, unmeasured, asOpened}
+use Rattle.model.specs.Run.{Call, read, write, flush, drop, total, timesOf, World, verdictOf, outcomeOf, writtenIn, left, after}
 use Rattle.model.specs.declared.Op.the-variants.{Write as Writes}
 use Rattle.model.specs.declared.Answer.{Answer}
 use Rattle.model.specs.declared.Answer.the-variants as answer
@@ -75,13 +78,15 @@ pub record Reads (s notes : List ℕ) (rs : List Record) (n : Numbers) : Type 0 
 
 module _ (π : Policy) where
   -- "For a write the record's value is byte 0 of the page after the call."
-  abbrev pub valueOf : World (π .State) → ℕ → ℕ → List ℕ → ℕ
-  valueOf x q start bytes = getD (pageOf (π .numbers (x .state) .P) (outcomeOf π Writes x q .frame) (writtenIn π x q start bytes .frames)) 0 0
+  abbrev pub valueOf : World (π .State) → Times → ℕ → ℕ → List ℕ → ℕ
+  valueOf x t q start bytes =
+      let o = outcomeOf π Writes x t q in
+      getD (pageOf (π .numbers (x .state) .P) (o .frame) (writtenIn π x q start bytes o .frames)) 0 0
 
   -- a total is no served call: it has no record
   abbrev pub recordsOf : World (π .State) → Call → List Record
-  recordsOf x (read q out) = Read q ∷ []
-  recordsOf x (write q start bytes) = Write q (valueOf x q start bytes) ∷ []
+  recordsOf x (read t q out) = Read q ∷ []
+  recordsOf x (write t q start bytes) = Write q (valueOf x t q start bytes) ∷ []
   recordsOf x flush = Flush ∷ []
   recordsOf x (drop q) = Drop q ∷ []
   recordsOf x total = []
@@ -95,8 +100,8 @@ module _ (π : Policy) where
   shownOf x c = record { said = left π x c .said; state = left π x c .state } ∷ []
 
   abbrev pub shown : World (π .State) → Call → List Shown
-  shown x (read q out) = shownOf x (read q out)
-  shown x (write q start bytes) = shownOf x (write q start bytes)
+  shown x (read t q out) = shownOf x (read t q out)
+  shown x (write t q start bytes) = shownOf x (write t q start bytes)
   shown x flush = shownOf x flush
   shown x (drop q) = shownOf x (drop q)
   shown x total = []
@@ -125,8 +130,8 @@ recordedBy Fine r x = addAfter (x .recorder) r (x .buffer)
 module _ (π : Policy) where
   -- the recorder after a call; a total leaves it
   abbrev pub afterRecorded : World (π .State) → Call → Tape → Tape
-  afterRecorded w (read q out) x = tapeOf (recordedBy (verdictOf π w (read q out)) (Read q) x)
-  afterRecorded w (write q start bytes) x = tapeOf (recordedBy (verdictOf π w (write q start bytes)) (Write q (valueOf π w q start bytes)) x)
+  afterRecorded w (read t q out) x = tapeOf (recordedBy (verdictOf π w (read t q out)) (Read q) x)
+  afterRecorded w (write t q start bytes) x = tapeOf (recordedBy (verdictOf π w (write t q start bytes)) (Write q (valueOf π w t q start bytes)) x)
   afterRecorded w flush x = tapeOf (recordedBy (verdictOf π w flush) Flush x)
   afterRecorded w (drop q) x = tapeOf (recordedBy (verdictOf π w (drop q)) (Drop q) x)
   afterRecorded w total x = x
@@ -139,11 +144,17 @@ module _ (π : Policy) where
 -- ---- a run of a trace: "W: value goes to byte 0 of the page"; reads go to the output `out`
 
 abbrev pub callOf : List ℕ → Record → Call
-callOf out (Read q) = read q out
-callOf out (Write q v) = write q 0 (v ∷ [])
+callOf out (Read q) = read unmeasured q out
+callOf out (Write q v) = write unmeasured q 0 (v ∷ [])
 callOf out Flush = flush
 callOf out (Drop q) = drop q
 
 abbrev pub callsOf : List ℕ → List Record → List Call
 callsOf out [] = []
 callsOf out (r ∷ rs) = callOf out r ∷ callsOf out rs
+
+-- "CR 2's rerun holds only without reports": a trace has no times, so what was recorded must have had the opened costs; a call that was refused for its kept
+-- numbers records nothing
+abbrev pub AsOpened : List Call → Type 0
+AsOpened [] = Unit {0}
+AsOpened (c ∷ cs) = (asOpened (timesOf c) ≡ true) × AsOpened cs

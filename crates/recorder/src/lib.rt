@@ -6,14 +6,10 @@
 // numbers that it holds, which in a sound pool are never 0: `record_casa::begin` takes them from it.
 ghost use mathlib.Core.Path.{_≡_};
 ghost use mathlib.Core.Bool.{not};
-ghost use mathlib.Core.List.{_∷_};
-ghost use Prim.Native.Nat.{_+_, _≤_};
-ghost use lib.ListN.{length};
-ghost use Rattle.little.specs.Little.{bytesOf};
-ghost use Rattle.pages.specs.Pages.{splice};
+ghost use Prim.Native.Nat.{_≤_};
 ghost use Rattle.model.specs.Numbers.{numbers};
 ghost use Rattle.trace.specs.Format.{isEnd};
-ghost use Rattle.trace.specs.Encode.{recordBytes, trailerOf, trailerBytes};
+ghost use Rattle.trace.specs.Encode.{trailerOf};
 ghost use Rattle.trace.specs.declared.Record.the-variants.{Flush, Drop};
 ghost use Rattle.recorder.specs.Calls.{numbersOf, zeroRecorder, foundFor, roomFor, addVerdict, closeVerdict};
 ghost use Rattle.recorder.specs.Calls.{beginAfter, addAfter, closeAfter, recordedLeft, closedLeft};
@@ -136,51 +132,6 @@ fn add_verdict(recorder: Recorder, what: Record, n: usize) -> Verdict
     Verdict::Fine
 }
 
-// ---- bytes
-
-// A number in `width` bytes from byte `at` on.
-fn put_number(buffer: &mut [u8], at: usize, width: usize, x: usize)
-    requires { ⌜ at + width ≤ length (now buffer) ⌝ }
-    ensures { λ _. ⌜ now (buffer .exit) ≡ splice at (bytesOf width x) (now (buffer .entry)) ⌝ }
-{
-    let end = at + width;
-    little::put(&mut buffer[at..end], x as u64);
-}
-
-fn put_parts(buffer: &mut [u8], at: usize, letter: u8, value: u8, page: usize)
-    requires { ⌜ at + 4 ≤ length (now buffer) ⌝ }
-    ensures { λ _. ⌜ now (buffer .exit) ≡ splice at (letter ∷ value ∷ bytesOf 2 page) (now (buffer .entry)) ⌝ }
-{
-    buffer[at] = letter;
-    buffer[at + 1] = value;
-    put_number(buffer, at + 2, 2, page);
-}
-
-fn put_record(buffer: &mut [u8], at: usize, what: Record)
-    requires { ⌜ at + 4 ≤ length (now buffer) ⌝ }
-    ensures { λ _. ⌜ now (buffer .exit) ≡ splice at (recordBytes what) (now (buffer .entry)) ⌝ }
-{
-    match what {
-        Record::Read(page) => put_parts(buffer, at, b'R', 0, page),
-        Record::Write(page, value) => put_parts(buffer, at, b'W', value, page),
-        Record::Flush => put_parts(buffer, at, b'F', 0, 0),
-        Record::Drop(page) => put_parts(buffer, at, b'D', 0, page),
-    }
-}
-
-fn put_trailer(buffer: &mut [u8], at: usize, trailer: Trailer)
-    requires { ⌜ at + 20 ≤ length (now buffer) ⌝ }
-    ensures { λ _. ⌜ now (buffer .exit) ≡ splice at (trailerBytes trailer) (now (buffer .entry)) ⌝ }
-{
-    put_number(buffer, at, 4, trailer.distance);
-    put_number(buffer, at + 4, 4, trailer.records);
-    put_number(buffer, at + 8, 2, trailer.frames);
-    put_number(buffer, at + 10, 2, trailer.page_bytes);
-    put_number(buffer, at + 12, 4, trailer.pages);
-    put_number(buffer, at + 16, 2, trailer.read_cost);
-    put_number(buffer, at + 18, 2, trailer.write_cost);
-}
-
 // ---- the public calls
 
 // The recorder of a trace that was not begun.
@@ -249,7 +200,7 @@ pub fn add(recorder: Recorder, what: Record, buffer: &mut [u8]) -> Recorded
             answer: Recording::Refused(why),
         },
         Verdict::Fine => {
-            put_record(
+            writing::put_record(
                 buffer,
                 recorder.start + 4 * (recorder.records as usize),
                 what,
@@ -314,7 +265,7 @@ pub fn close(recorder: Recorder, buffer: &mut [u8]) -> Closing
         Verdict::Refused(why) => Closing::Refused(why),
         Verdict::Fine => {
             let end = recorder.start + 4 * (recorder.records as usize);
-            put_trailer(buffer, end, trailer_of(recorder));
+            writing::put_trailer(buffer, end, trailer_of(recorder));
             Closing::Closed(end + TRAILER)
         }
     }

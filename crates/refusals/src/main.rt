@@ -4,12 +4,13 @@ ghost use lib.ListN.{length};
 use model::Answer;
 use model::Dropping;
 use model::Flushing;
+use model::Kept;
 use pool::Pool;
 use tell::end;
 use tell::number;
 use tell::word;
 
-// Whether bit k of a set of refusals is on: bit 0 stands for refusal 2, up to bit 4 for refusal 6.
+// Whether bit k of a set of refusals is on: bit 0 stands for refusal 2, up to bit 4 for refusal 6, and bit 5 for refusal 13.
 fn has(set: usize, bit: usize) -> bool
     requires { ⌜ 1 ≤ bit ⌝ }
 {
@@ -66,6 +67,14 @@ fn length_of(set: usize) -> usize
     16
 }
 
+// Of windows of one time with nothing measured yet, or of all zeros.
+fn kept_of(set: usize) -> Kept {
+    if has(set, 32) {
+        return costs::fresh(0);
+    }
+    costs::fresh(1)
+}
+
 // The line of a set starts with the call and the set.
 fn tell_set(what: &[u8], set: usize) {
     word(what);
@@ -84,8 +93,9 @@ fn read_as(set: usize, frames: &mut [u8], store: &mut [u8], out: &mut [u8]) -> A
 {
     let f = frames_of(set);
     let n = length_of(set);
-    let served = casa::read_page(
+    let served = casa::read_page_measured(
         pool_of(set),
+        kept_of(set),
         page_of(set),
         &mut frames[0..f],
         store,
@@ -112,8 +122,9 @@ fn write_as(set: usize, frames: &mut [u8], store: &mut [u8]) -> Answer
     let bytes = [3u8; 17];
     let f = frames_of(set);
     let n = length_of(set);
-    let served = casa::write_page(
+    let served = casa::write_page_measured(
         pool_of(set),
+        kept_of(set),
         page_of(set),
         0,
         &bytes[0..n],
@@ -175,14 +186,21 @@ fn total_set(set: usize) {
     end();
 }
 
+// The calls that take no kept numbers.
+fn other_sets(set: usize) {
+    flush_set(set);
+    drop_set(set);
+    total_set(set);
+}
+
 fn sets() {
     let mut set = 0;
-    while set < 32 {
+    while set < 64 {
         read_set(set);
         write_set(set);
-        flush_set(set);
-        drop_set(set);
-        total_set(set);
+        if set < 32 {
+            other_sets(set);
+        }
         set += 1;
     }
 }

@@ -19,6 +19,8 @@ fn call_of(world: World, letter: u8, page: usize, value: u8) -> Call {
         frame_bytes: world.frame_bytes,
         store_bytes: world.store_bytes,
         out_bytes: world.page_bytes,
+        measured: false,
+        kept: costs::fresh(0),
     }
 }
 

@@ -11,52 +11,56 @@ use borrow.Author.Tests.{lt-ltb, le-ltb, le-leb, lt-leb}
 use Rattle.pages.specs.Memory.{sizesMatch}
 use Rattle.model.specs.Numbers.{Numbers, mostServed}
 use Rattle.model.specs.Refusals.{requestVerdict, flushVerdict, dropVerdict, stretchFits}
-use Rattle.model.specs.declared.Refusal.the-variants.{BrokenPool, WrongMemory, NoSuchPage, WrongBytes, Spent}
+use Rattle.model.specs.declared.Refusal.the-variants.{BrokenPool, BrokenWindows, WrongMemory, NoSuchPage, WrongBytes, Spent}
 use Rattle.model.specs.declared.Verdict.the-variants.{Fine, Refused}
 
 abbrev sized : Numbers → ℕ → ℕ → Bool
 sized a m n = sizesMatch (a .P) (a .b) (a .N) m n
 
-module _ (sound : Bool) (k : Numbers) (served m n : ℕ) where
+module _ (sound timed : Bool) (k : Numbers) (served m n : ℕ) where
   -- ---- a read or a write
 
   module _ (page : ℕ) (fit : Bool) where
-    pub request-broken : sound ≡ false → Refused BrokenPool ≡ requestVerdict sound k served m n page fit
+    pub request-broken : sound ≡ false → Refused BrokenPool ≡ requestVerdict sound timed k served m n page fit
     unfolding requestVerdict
     request-broken a = rw a
 
-    pub request-memory : sound ≡ true → sized k m n ≡ false → Refused WrongMemory ≡ requestVerdict sound k served m n page fit
+    pub request-windows : sound ≡ true → timed ≡ false → Refused BrokenWindows ≡ requestVerdict sound timed k served m n page fit
     unfolding requestVerdict
-    request-memory a b = rw (a, b)
+    request-windows a t = rw (a, t)
 
-    module _ (a : sound ≡ true) (b : sized k m n ≡ true) where
-      pub request-page : k .N ≤ page → Refused NoSuchPage ≡ requestVerdict sound k served m n page fit
-      unfolding requestVerdict
-      request-page c = rw (a, b, le-leb _ _ c)
+    pub request-memory : sound ≡ true → timed ≡ true → sized k m n ≡ false → Refused WrongMemory ≡ requestVerdict sound timed k served m n page fit
+    unfolding requestVerdict
+    request-memory a t b = rw (a, t, b)
 
-      pub request-bytes : page < k .N → fit ≡ false → Refused WrongBytes ≡ requestVerdict sound k served m n page fit
+    module _ (a : sound ≡ true) (t : timed ≡ true) (b : sized k m n ≡ true) where
+      pub request-page : k .N ≤ page → Refused NoSuchPage ≡ requestVerdict sound timed k served m n page fit
       unfolding requestVerdict
-      request-bytes c d = rw (a, b, lt-leb _ _ c, d)
+      request-page c = rw (a, t, b, le-leb _ _ c)
 
-      pub request-spent : page < k .N → fit ≡ true → mostServed ≤ served → Refused Spent ≡ requestVerdict sound k served m n page fit
+      pub request-bytes : page < k .N → fit ≡ false → Refused WrongBytes ≡ requestVerdict sound timed k served m n page fit
       unfolding requestVerdict
-      request-spent c d e = rw (a, b, lt-leb _ _ c, d, le-leb _ _ e)
+      request-bytes c d = rw (a, t, b, lt-leb _ _ c, d)
 
-      pub request-fine : page < k .N → fit ≡ true → served < mostServed → Fine ≡ requestVerdict sound k served m n page fit
+      pub request-spent : page < k .N → fit ≡ true → mostServed ≤ served → Refused Spent ≡ requestVerdict sound timed k served m n page fit
       unfolding requestVerdict
-      request-fine c d e = rw (a, b, lt-leb _ _ c, d, lt-leb _ _ e)
+      request-spent c d e = rw (a, t, b, lt-leb _ _ c, d, le-leb _ _ e)
+
+      pub request-fine : page < k .N → fit ≡ true → served < mostServed → Fine ≡ requestVerdict sound timed k served m n page fit
+      unfolding requestVerdict
+      request-fine c d e = rw (a, t, b, lt-leb _ _ c, d, lt-leb _ _ e)
 
 -- ---- a flush and a drop
 
--- page 0 is in every store that has a page, and no bytes are wrong, so these two rows never refuse
+-- page 0 is in every store that has a page, and no kept numbers and no bytes are wrong, so these three rows never refuse
 pub flush-as-request : (sound : Bool) (k : Numbers) (served m n : ℕ) → (sound ≡ true → 0 < k .N)
-    → requestVerdict sound k served m n 0 true ≡ flushVerdict sound k served m n
+    → requestVerdict sound true k served m n 0 true ≡ flushVerdict sound k served m n
 unfolding requestVerdict flushVerdict
 flush-as-request false k served m n h = refl
 flush-as-request true k served m n h = rw (lt-leb (k .N) 0 (h refl))
 
--- a drop has no bytes of the caller's that could be wrong
-pub drop-as-request : (sound : Bool) (k : Numbers) (served m n page : ℕ) → requestVerdict sound k served m n page true ≡ dropVerdict sound k served m n page
+-- a drop has neither kept numbers nor bytes of the caller's that could be wrong
+pub drop-as-request : (sound : Bool) (k : Numbers) (served m n page : ℕ) → requestVerdict sound true k served m n page true ≡ dropVerdict sound k served m n page
 unfolding requestVerdict dropVerdict
 drop-as-request sound k served m n page = refl
 

@@ -17,10 +17,11 @@ use model::Victim;
 
 // ---- refusals
 
-// Of a read or a write, and by its rows of a flush and a drop: whether the pool is sound, its numbers and served calls, the `m` bytes of frame memory and `n` of store that are lent, the page,
-// and whether the caller's own bytes fit. The costs refuse nothing.
+// Of a read or a write, and by its rows of a flush and a drop: whether the pool is sound, whether the kept numbers fit, the pool's numbers and served calls, the
+// `m` bytes of frame memory and `n` of store that are lent, the page, and whether the caller's own bytes fit. The costs refuse nothing.
 pub fn request_verdict(
     sound: bool,
+    timed: bool,
     frames: usize,
     page_bytes: usize,
     pages: usize,
@@ -31,10 +32,13 @@ pub fn request_verdict(
     fit: bool,
 ) -> Verdict
     requires { ⌜ (sound ≡ true → (frames ≤ places) × (pages ≤ 65536) × («page_bytes» ≤ 4096)) ⌝ }
-    ensures { λ r. ⌜ r ≡ requestVerdict sound (numbers frames «page_bytes» pages 0 0) served m n page fit ⌝ }
+    ensures { λ r. ⌜ r ≡ requestVerdict sound timed (numbers frames «page_bytes» pages 0 0) served m n page fit ⌝ }
 {
     if !sound {
         return Verdict::Refused(Refusal::BrokenPool);
+    }
+    if !timed {
+        return Verdict::Refused(Refusal::BrokenWindows);
     }
     if !pages::sizes_match(m, n, frames, pages, page_bytes) {
         return Verdict::Refused(Refusal::WrongMemory);

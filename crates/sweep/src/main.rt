@@ -1,5 +1,5 @@
 // Makes the public calls in large numbers and prints digests of all that they leave: every short sequence on a small pool, random runs at every number of
-// frames, and calls on pools in which one thing was changed. tests/sweep.py says what must be printed.
+// frames, calls on pools in which one thing was changed, and calls with kept numbers. tests/sweep.py says what must be printed.
 ghost use Prim.Native.Nat.{_≤_};
 use calls::DROP;
 use calls::FAULT;
@@ -32,14 +32,6 @@ fn fresh_tally() -> Tally {
     }
 }
 
-fn one_more(counts: [u64; KINDS], kind: usize) -> [u64; KINDS] {
-    let mut more = counts;
-    if kind < KINDS {
-        more[kind] = std::num::wrapping_add_u64(more[kind], 1);
-    }
-    more
-}
-
 // The answer of a call, its pool and every byte of memory are absorbed.
 fn absorb_left(tally: Tally, left: Left, frames: &[u8], store: &[u8], out: &[u8]) -> Tally {
     let said = left.said;
@@ -48,7 +40,7 @@ fn absorb_left(tally: Tally, left: Left, frames: &[u8], store: &[u8], out: &[u8]
     let with_store = digest::absorb_bytes(with_frames, store);
     let digest = digest::absorb_bytes(with_store, out);
     let before = tally.counts;
-    let counts = one_more(before, said.kind);
+    let counts = calls::one_more(before, said.kind);
     Tally { digest, counts }
 }
 
@@ -59,7 +51,7 @@ fn tell_digest(digest: u32) {
 
 // How often each kind of answer came, from one kind to before another.
 fn tell_kinds(what: &[u8], counts: &[u64; KINDS], from: usize, end: usize)
-    requires { ⌜ end ≤ 18 ⌝ }
+    requires { ⌜ end ≤ 27 ⌝ }
 {
     word(what);
     let mut kind = from;
@@ -69,7 +61,7 @@ fn tell_kinds(what: &[u8], counts: &[u64; KINDS], from: usize, end: usize)
     }
 }
 
-// Faults without a victim, with a clean one and with a dirty one; refusals 2 to 6.
+// Faults without a victim, with a clean one and with a dirty one; refusals 2 to 6, and 13 for kept numbers of windows.
 fn tell_counts(tally: Tally) {
     let counts = tally.counts;
     tell_kinds(b" hits", &counts, HIT, FAULT);
@@ -78,6 +70,7 @@ fn tell_counts(tally: Tally) {
     tell_kinds(b" totals", &counts, TOTAL, DROP);
     tell_kinds(b" drops", &counts, DROP, KINDS);
     tell_kinds(b" refused", &counts, 2, 7);
+    tell_kinds(b" windows", &counts, 13, 14);
     tell::end();
 }
 
@@ -101,7 +94,7 @@ fn fresh_run(world: World, tally: Tally, r: u64, w: u64) -> Run {
 }
 
 fn pool_after(turn: Turn, left: Left, before: Pool) -> Pool {
-    if turn.kept {
+    if turn.stays {
         return left.pool;
     }
     before
@@ -276,4 +269,5 @@ fn main() {
     drops(3, 2);
     runs(b"random", Plan::Random, 2000);
     runs(b"broken", Plan::Broken, 1500);
+    runs(b"timed", Plan::Timed, 1000);
 }

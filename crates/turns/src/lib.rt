@@ -4,22 +4,25 @@ mod change;
 use calls::Call;
 use calls::chance;
 use calls::chance::World;
+use calls::windows;
+use model::MOST_SERVED;
 use pool::Pool;
 
-// A sequence, by how many letters there are, the number whose digits at that base are its own, and its length; random calls; or random calls, each followed by
-// every call on a changed pool.
+// A sequence, by how many letters there are, the number whose digits at that base are its own, and its length; random calls; random calls, each followed by
+// every call on a changed pool; or random calls with kept numbers.
 pub enum Plan {
     Letters(usize, usize, usize),
     Random,
     Broken,
+    Timed,
 }
 
-// A call that is told is absorbed; the pool of one that is kept is the run's from then on. `seed` is where chance goes on.
+// A call that is told is absorbed; the pool of one that stays is the run's from then on. `seed` is where chance goes on.
 pub struct Turn {
     pub pool: Pool,
     pub call: Call,
     pub told: bool,
-    pub kept: bool,
+    pub stays: bool,
     pub seed: usize,
 }
 
@@ -65,6 +68,8 @@ fn small_call(world: World, i: usize, letter: usize) -> Call {
         frame_bytes: world.frame_bytes,
         store_bytes: world.store_bytes,
         out_bytes: world.page_bytes,
+        measured: false,
+        kept: costs::fresh(0),
     }
 }
 
@@ -76,7 +81,7 @@ fn letter_turn(world: World, pool: Pool, letter: usize, length: usize, rest: usi
         pool,
         call,
         told: rest == 1,
-        kept: true,
+        stays: true,
         seed: 0,
     }
 }
@@ -98,7 +103,7 @@ fn random_turn(world: World, pool: Pool, seed: usize, told: bool, next: usize) -
         pool,
         call: chance::random_call(world, seed),
         told,
-        kept: true,
+        stays: true,
         seed: next,
     }
 }
@@ -121,7 +126,7 @@ fn changed_turn(world: World, pool: Pool, seed: usize, rest: usize) -> Turn {
         pool: change::changed_pool(pool, seed),
         call: chance::right_call(world, letter_with(rest), next),
         told: true,
-        kept: false,
+        stays: false,
         seed: if rest == 1 { next } else { seed },
     }
 }
@@ -133,6 +138,37 @@ fn broken_turn(world: World, pool: Pool, seed: usize, rest: usize) -> Turn {
     changed_turn(world, pool, seed, rest)
 }
 
+// ---- with kept numbers
+
+// 65 pages: a target that no number of frames allows.
+const FAR_TARGET: u64 = 4259840;
+
+// A pool that is broken, one that has served all its calls, or mostly the pool as it is.
+fn strained(pool: Pool, chance: usize) -> Pool {
+    let mut new = pool;
+    match chance % 16 {
+        0 => new.target = FAR_TARGET,
+        1 => new.served = MOST_SERVED,
+        _ => {}
+    }
+    new
+}
+
+// A random call with kept numbers, which take three more numbers of the sequence. What becomes of a pool that was strained for it does not stay.
+fn timed_turn(world: World, pool: Pool, seed: usize) -> Turn {
+    let how = chance::next(after_call(seed));
+    let of_reads = chance::next(how);
+    let of_writes = chance::next(of_reads);
+    let call = chance::random_call(world, seed);
+    Turn {
+        pool: strained(pool, how / 9216),
+        call: windows::timed_call(call, how, of_reads, of_writes),
+        told: true,
+        stays: 1 < how / 9216 % 16,
+        seed: of_writes,
+    }
+}
+
 // The turn with which so many are left. Six turns of a broken run belong together; a random run takes as many numbers of the sequence for one.
 pub fn turn_of(plan: Plan, world: World, pool: Pool, seed: usize, rest: usize) -> Turn {
     match plan {
@@ -141,5 +177,6 @@ pub fn turn_of(plan: Plan, world: World, pool: Pool, seed: usize, rest: usize) -
         }
         Plan::Random => random_turn(world, pool, seed, true, after_change(after_call(seed))),
         Plan::Broken => broken_turn(world, pool, seed, rest % 6),
+        Plan::Timed => timed_turn(world, pool, seed),
     }
 }

@@ -1,55 +1,23 @@
--- `casa::read_page` meets its contract, by the verdict: refused, everything is as it was; else the call may be served. Assumes nothing.
-use mathlib.Core.Path.{_≡_, sym, _∙_}
+-- `casa::read_page` meets its contract: with nothing measured yet, the form with kept numbers is the call without it. Assumes nothing.
+use mathlib.Core.Path.{ap, _∙_}
+use native.Mathlib.Omega.{arith}
 use borrow.Author.Needs.{needs}
-use borrow.Author.Tests.{eqb-true}
-use Rattle.model.specs.Run.{Call, World, read, verdictOf}
-use Rattle.model.proofs.Refusals.{read-clear}
-use Rattle.pool.specs.declared.Pool.{Pool}
+use Rattle.model.specs.Times.{measured, freshKept}
+use Rattle.model.specs.Run.{read, left}
+use Rattle.model.specs.declared.Kept.{Kept}
+use Rattle.model.proofs.Times.{fresh-fits, fresh-opened, read-opened}
 use Rattle.casa.specs.Calls.{pools, worldOf}
-use Rattle.casa.proofs.Calls.{sound-is, sound-sizes, call-refused, call-served, read-verdict}
 use Rattle.casa.proofs.read_page.Statement.{statement}
 use Rattle.casa.proofs.read_page.Tie as tie
 
--- ---- behind the verdict: the call, and that the verdict is the call's
-
-abbrev start : tie.After-request-verdict → tie.Start
-start c = c .before .before .before .before .before
-
-abbrev world : tie.After-request-verdict → World Pool
-world c = let a = start c .args in worldOf (a .pool) (a .frames .now) (a .store .now)
-
-abbrev call : tie.After-request-verdict → Call
-call c = let a = start c .args in read (a .page) (a .out .now)
-
-told : (c : tie.After-request-verdict) → c .request-verdict .result ≡ verdictOf pools (world c) (call c)
-told c =
-    let a = start c .args in
-    let sound = c .before .sound in
-    read-verdict (world c) (c .request-verdict .result) (sound .result) (sound .ensures) (a .page) (a .out .now) (c .request-verdict .ensures)
-
--- ---- the needs
-
-request-verdict-requires : tie.Need-request-verdict-requires
-request-verdict-requires c κs e = sound-sizes _ (sym (c .sound .ensures) ∙ e)
-
-read-requires : tie.Need-read-requires
-read-requires c κs =
-    let fine = c .before .before .before in
-    let at = fine .before .before in
-    let ok = read-clear pools (world at) (start at .args .page) (start at .args .out .now) (sym (told at) ∙ fine .enum-told .given .1) in
-    (sound-is _ (ok .0), ((ok .1, ok .2), eqb-true _ _ (ok .3)))
-
 returns : tie.Need-returns
-returns c = let at = c .before .before .before in call-refused (world at) (call at) _ (told at) _ (c .before .verdict .given .1)
-
-returns-2 : tie.Need-returns-2
-returns-2 c =
+returns c =
     let done = c .before .before .before .before .before .before in
-    let fine = done .before .before .before .before in
-    let at = fine .before .before in
-    done .read .ensures ∙ call-served (world at) (call at) _ (told at) (fine .enum-told .given .1)
+    let made = done .before .before .before .before in
+    let a = made .before .before .before .before .args in
+    let world = worldOf (a .pool) (a .frames .now) (a .store .now) in
+    done .read-page-measured .ensures ∙ ap (λ (k : Kept). left pools world (read (measured k) (a .page) (a .out .now))) (made .fresh .ensures)
+    ∙ read-opened pools world (measured (freshKept 1)) (fresh-fits 1 (omega arith) (omega arith)) (fresh-opened 1 (omega arith)) (a .page) (a .out .now)
 
 pub read-page-spec : {M : Type 1} → statement M
-read-page-spec =
-    tie.close (tie.spec (λ c κs. search needs) request-verdict-requires (λ c. search needs) (λ c. search needs) read-requires returns
-    (λ c. search needs) (λ c. search needs) (λ c. search needs) returns-2)
+read-page-spec = tie.close (tie.spec (λ c κs. search needs) (λ c κs. search needs) (λ c. search needs) (λ c. search needs) (λ c. search needs) returns)

@@ -2,6 +2,7 @@
 -- page that was written stands first in D. Assumes nothing.
 use mathlib.Core.Path.{_∙_}
 use borrow.Author.Needs.{needs}
+use Rattle.model.specs.Times.{unmeasured}
 use Rattle.model.specs.Run as run
 use Rattle.recorder.specs.Runs.{tape, recordedBy}
 use Rattle.record_casa.proofs.Laws.{answer-verdict-is, written-recorded}
@@ -16,7 +17,7 @@ returns c =
     let a = done .before .before .before .before .before .before .before .args in
     let e = done .write-page .ensures in
     let r = done .write-page .result in
-    let call = run.write (a .page) (a .start) (a .bytes .now) in
+    let call = run.write unmeasured (a .page) (a .start) (a .bytes .now) in
     let x = tape (a .recorder) (a .buffer .now) in
     let v = answer-verdict-is (a .pool) (a .frames .now) (a .store .now) call r _ _ _ e in (
       e,

@@ -11,7 +11,7 @@ use denote.Ref.{now}
 use Rattle.model.specs.Words.{namedBy}
 use Rattle.model.specs.declared.Refusal.{Refusal}
 use Rattle.model.specs.declared.Refusal.the-variants.{OutOfLimits, BrokenPool, WrongMemory, NoSuchPage, WrongBytes, Spent}
-use Rattle.model.specs.declared.Refusal.the-variants.{NotATrace, BadRecord, LongFile, LargePool, NoRoom}
+use Rattle.model.specs.declared.Refusal.the-variants.{NotATrace, BadRecord, LongFile, LargePool, NoRoom, ZeroTime, BrokenWindows}
 use Rattle.model.proofs.Refusal as R
 use Rattle.trace.specs.declared.Checked.the-variants.{Refused}
 use Rattle.trace.specs.Format.{checkedOf, firstPlace}
@@ -40,7 +40,7 @@ returns c = rw (is-bad c)
 
 -- the refusals but 8, as a match tells them apart; none of them names a record
 abbrev others : List ℕ
-others = 0 ∷ 1 ∷ 2 ∷ 3 ∷ 4 ∷ 5 ∷ 6 ∷ 8 ∷ 9 ∷ 10 ∷ []
+others = 0 ∷ 1 ∷ 2 ∷ 3 ∷ 4 ∷ 5 ∷ 6 ∷ 8 ∷ 9 ∷ 10 ∷ 11 ∷ 12 ∷ []
 
 other-names-none : (x : Refusal) → OneOf others (tagOf R.the-type x) → namedBy x ≡ []
 other-names-none OutOfLimits h = refl
@@ -54,6 +54,8 @@ other-names-none (BadRecord k) h = absurd (miss others 7 tt h)
 other-names-none LongFile h = refl
 other-names-none LargePool h = refl
 other-names-none NoRoom h = refl
+other-names-none ZeroTime h = refl
+other-names-none BrokenWindows h = refl
 
 returns-2 : tie.Need-returns-2
 unfolding firstPlace
