@@ -1,5 +1,7 @@
 // Loads for counting instructions, called from C. Numbers and requests come from outside, so that the compiler can make no use of them, and every public
 // call is linked.
+#![tactic(auto)]
+
 pub mod record;
 
 use model::Costing;

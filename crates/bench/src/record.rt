@@ -5,7 +5,7 @@ use recorder::{Closing, Recorded, Recorder, Recording};
 use trace::Record;
 
 // The recorder that a call hands back, and what it answers as a number: 0, the bytes of a closed trace, or a refusal.
-#[derive(Drop)]
+#[derive(Clone, Copy)]
 struct Told {
     recorder: Recorder,
     said: u64,

@@ -1,6 +1,8 @@
 // Loads for counting instructions of the measured calls and of the reports, called from C. They stand in a library of their own, apart from those of `bench`: in
 // one that has both forms of a read, neither is compiled into the loop. Numbers and requests come from outside, so that the compiler can make no use of them,
 // and every call of a pool beside which times are kept is linked.
+#![tactic(auto)]
+
 use model::{Costing, Kept, Window};
 use pool::Pool;
 
@@ -60,7 +62,7 @@ fn serve(
 }
 
 // A request: what it asks, and a page, a time or a length.
-#[derive(Drop)]
+#[derive(Clone, Copy)]
 struct Request {
     op: u8,
     number: u16,
@@ -80,7 +82,7 @@ fn request_at(ops: &[u8], pages: &[u16], i: usize) -> Request {
 }
 
 // What a run leaves: the pool, and what is kept of its windows.
-#[derive(Drop)]
+#[derive(Clone, Copy)]
 struct House {
     pool: Pool,
     kept: Kept,

@@ -1,5 +1,7 @@
 // Recorders made by hand: a right one, or one of which a number was changed, in buffers of different lengths. Prints a digest of all that the calls on them
 // leave, and of traces that were closed, read and written once more. tests/recording.py says what must be printed.
+#![tactic(auto)]
+
 use calls::{at_most, chance};
 use model::{Answer, Dropping, Flushing, Refusal, Victim};
 use recorder::{Closing, Recorded, Recorder, Recording};

@@ -30,7 +30,7 @@ pub fn fill(store: &mut [u8]) {
 // ---- the pool of a run
 
 // The sizes of a pool and of its memory.
-#[derive(Drop)]
+#[derive(Clone, Copy)]
 pub struct World {
     pub frames: usize,
     pub page_bytes: usize,
@@ -39,7 +39,7 @@ pub struct World {
     pub store_bytes: usize,
 }
 
-#[derive(Drop)]
+#[derive(Clone, Copy)]
 pub struct Costs {
     pub read: u64,
     pub write: u64,

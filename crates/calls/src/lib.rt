@@ -1,5 +1,7 @@
 // Calls as data, for a program that makes them in large numbers: a call and its answer as numbers; `chance` makes calls up, `windows` the kept numbers of
 // those that take them.
+#![tactic(auto)]
+
 ghost use Rattle.std.specs.Prelude.{◌≤◌};
 
 pub mod chance;
@@ -12,7 +14,7 @@ use pool::Pool;
 // ---- answers
 
 // An answer by its kind and value. A refusal's kind is the scope's number, 1 to 19.
-#[derive(Drop)]
+#[derive(Clone, Copy)]
 pub struct Said {
     pub kind: usize,
     pub value: u64,
@@ -122,7 +124,7 @@ pub fn one_more(counts: [u64; KINDS], kind: usize) -> [u64; KINDS] {
 
 // A call by the letter of a trace, or T for the total, with how many bytes of each memory are lent. A write's bytes grow from `value`. A read or a write that is
 // `measured` takes the kept numbers; no other call looks at them.
-#[derive(Drop)]
+#[derive(Clone, Copy)]
 pub struct Call {
     pub letter: u8,
     pub page: usize,
@@ -137,7 +139,7 @@ pub struct Call {
 }
 
 // The pool that a call hands back, and its answer.
-#[derive(Drop)]
+#[derive(Clone, Copy)]
 pub struct Left {
     pub pool: Pool,
     pub said: Said,

@@ -1,6 +1,8 @@
 // The public calls of the page buffer, on a pool that is handed in and handed back: open, read, write, flush, drop and total, a read and a write also in a form
 // that takes kept numbers. Every call takes any numbers, any bytes and any pool; what cannot be served is refused with the scope's number, and a refused call
 // changes nothing.
+#![tactic(auto)]
+
 ghost use Rattle.std.specs.Prelude.{◌≡◌, []};
 ghost use Rattle.model.specs.Words.{costing_says};
 ghost use Rattle.model.specs.Times.{unmeasured, measured};
@@ -13,25 +15,25 @@ use model::{
 };
 use pool::Pool;
 
-#[derive(Drop)]
+#[derive(Clone, Copy)]
 pub struct Opened {
     pub pool: Pool,
     pub answer: Opening,
 }
 
-#[derive(Drop)]
+#[derive(Clone, Copy)]
 pub struct Served {
     pub pool: Pool,
     pub answer: Answer,
 }
 
-#[derive(Drop)]
+#[derive(Clone, Copy)]
 pub struct Flushed {
     pub pool: Pool,
     pub answer: Flushing,
 }
 
-#[derive(Drop)]
+#[derive(Clone, Copy)]
 pub struct Dropped {
     pub pool: Pool,
     pub answer: Dropping,

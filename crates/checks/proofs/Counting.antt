@@ -5,7 +5,7 @@
 --     count-all    the pigeonhole: b numbers, every number below b among them, are the numbers below b, each once
 --     keep-in, keep-out    the elements of a list that pass a test
 -- Assumes nothing.
-use mathlib.Core.Path.{◌≡◌, refl, sym, ap, ◌∙◌}
+use mathlib.Core.Path.{subst, ◌≡◌, refl, sym, ap, ◌∙◌}
 use mathlib.Core.Logic.{◌≢◌, dite}
 use mathlib.Core.Bool.{Bool, true, false, false≢true, cond as if-else}
 use mathlib.Core.List.{List, [], ◌∷◌, ◌++◌}
@@ -27,7 +27,7 @@ count-three f xs ys zs = omega (arith, count-append f xs (ys ++ zs), count-appen
 pub count-cons-le : (f : ℕ) (xs ys : List ℕ) → ((g : ℕ) → count g xs ≤ count g ys) → count f xs < count f ys
     → (g : ℕ) → count g (f ∷ xs) ≤ count g ys
 count-cons-le f xs ys le more g =
-    dite (ℕ_discrete f g) (λ e. rw (← e) (omega (arith, bit-same f))) (λ n. omega (arith, bit-other f g n, le g))
+    dite (ℕ_discrete f g) (λ e. subst (λ (k : ℕ). count k (f ∷ xs) ≤ count k ys) e (omega (arith, bit-same f))) (λ n. omega (arith, bit-other f g n, le g))
 
 -- a number that stands more often in ys than in xs
 pub record More (xs ys : List ℕ) : Type 0 where

@@ -29,6 +29,7 @@ NoneGives y [] = Unit {0}
 NoneGives y (r ∷ rs) = (r.when ≡ true → r.why ≡ y → ⊥) × NoneGives y rs
 
 none-given : (y : Refusal) (rs : List Row) → NoneGives y rs → GivenBy y rs → ⊥
+none-given y [] n g = elim g [ ]
 none-given y (r ∷ rs) n (here h w) = n.0 h w
 none-given y (r ∷ rs) n (later h g) = none-given y rs n.1 g
 

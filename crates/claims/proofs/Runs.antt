@@ -67,7 +67,7 @@ run-sized c lends cs x e = go (sized x) refl
   where
     go : (t : Bool) → sized x ≡ t → sized x ≡ true
     go true h = h
-    go false h = lends x (rw (run-stays cs x h) at e)
+    go false h = lends x (subst (λ (y : World Pool). verdict_of pools y c ≡ Fine) (run-stays cs x h) e)
 
 read-sized : (t : Times) (q : ℕ) (out : List ℕ) → Sized (read t q out)
 read-sized t q out x e = not-false _ (first-clear (rows_of pools x (read t q out)) e).1.1.0

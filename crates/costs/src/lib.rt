@@ -1,4 +1,6 @@
 // What a serving call asks of the numbers that are kept of the times measured on the drive: whether they are in range, and the costs in force by them.
+#![tactic(auto)]
+
 ghost use Rattle.std.specs.Prelude.{◌≡◌, cond as if-else, ◌≤◌};
 ghost use Rattle.model.specs.Times.{most_times, length_fits, window_fits, kept_fits, both_full, fresh_kept};
 

@@ -1,4 +1,6 @@
 // One drop on a sound pool: the frame that has the page, if there is one, leaves C or D and becomes the last of E. No byte of a page is touched here.
+#![tactic(auto)]
+
 ghost use Rattle.std.specs.Prelude.{◌≡◌, ℕ, ◌<◌, List};
 ghost use Rattle.order.specs.Places.{places, InPlaces};
 ghost use Rattle.model.specs.State.{with_lists, counted};

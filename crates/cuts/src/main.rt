@@ -1,5 +1,7 @@
 // Cuts pages for good and prints what each drop leaves: zeros in the store, one physical write, and a frame that the next fault uses. The store starts with 9
 // in every byte, so that a zero comes from a drop.
+#![tactic(auto)]
+
 use order::PLACES;
 use pool::Pool;
 use tell::{end, number, word};

@@ -1,4 +1,6 @@
 // Digests of what calls leave: CRC-32 (reflected), four bits at a time.
+#![tactic(auto)]
+
 ghost use Rattle.std.specs.Prelude.{◌≤◌, ◌*◌, length};
 
 use order::PLACES;

@@ -1,4 +1,6 @@
 // Frames whose page was changed: one is written back before another page comes into it, and the frames of a list are written back in their order.
+#![tactic(auto)]
+
 ghost use Rattle.std.specs.Prelude.{◌≡◌, ℕ, ◌≤◌, ◌<◌, length, get_or, take};
 ghost use Rattle.order.specs.Places.{places};
 ghost use Rattle.pages.specs.Pages.{page_of, with_page, InPages};

@@ -1,4 +1,6 @@
 // Runs the scope's worked examples that are not proved in its table, on both sides of each edge, and prints what came out.
+#![tactic(auto)]
+
 ghost use Rattle.std.specs.Prelude.{◌≤◌};
 
 use casa::Served;

@@ -1,5 +1,7 @@
 // Calls that are not refused, on a sound pool: the step on the lists, and what it does to the lent bytes. A flush and a drop return
 // the pool alone: their answers are given above.
+#![tactic(auto)]
+
 ghost use Rattle.std.specs.Prelude.{◌≡◌, true, [], ◌+◌, ◌≤◌, ◌<◌, length};
 ghost use Rattle.model.specs.Words.{flushed, dropped};
 ghost use Rattle.model.specs.Refusals.{Ready};

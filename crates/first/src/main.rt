@@ -1,4 +1,6 @@
 // A first program: opens a pool, writes a mark into a page, reads the page back, flushes, and prints what came out and what it cost.
+#![tactic(auto)]
+
 use model::{Answer, Costing, Flushing};
 
 fn line(what: &[u8], n: u64) {

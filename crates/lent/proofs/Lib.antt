@@ -1,3 +1,2 @@
--- The laws of `lent`: Thin for its walks, Settled for its callers. Assumes nothing.
-pub mod Thin
+-- The laws of `lent` for its callers. Assumes nothing.
 pub mod Settled

@@ -1,5 +1,7 @@
 // The same calls on a pool that is lent, and brought up to date where it stands: for a loop that holds one pool. Each is thin over the call by value, and
 // answers alike.
+#![tactic(auto)]
+
 ghost use Rattle.std.specs.Prelude.{◌≡◌, []};
 ghost use Rattle.model.specs.Times.{unmeasured, measured};
 ghost use Rattle.model.specs.Run as run;

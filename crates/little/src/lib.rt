@@ -1,4 +1,6 @@
 // Little-endian numbers in byte slices: the width of a number is the length of its slice.
+#![tactic(auto)]
+
 ghost use Rattle.std.specs.Prelude.{◌≡◌, ◌*◌, ◌≤◌, length};
 ghost use Rattle.little.specs.Little.{bytes_of, number_of, bytes_of_all, numbers_of};
 

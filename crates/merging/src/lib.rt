@@ -1,4 +1,6 @@
 // Two lists of frames by falling reference numbers become one: what a flush makes of D and C.
+#![tactic(auto)]
+
 ghost use Rattle.std.specs.Prelude.{◌≡◌, ℕ, ◌+◌, ◌≤◌, ◌<◌, length, get_or, take, drop};
 ghost use Rattle.order.specs.Places.{places, InPlaces};
 ghost use Rattle.order.specs.Merge.{merged, takes_first};

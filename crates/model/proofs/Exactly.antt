@@ -37,6 +37,7 @@ first-given (x ∷ xs) y e = go x.when refl e (first-given xs y)
     go false h d ih = later h (ih d)
 
 pub given-first : (xs : List Row) (y : Refusal) → GivenBy y xs → first xs ≡ Refused y
+given-first [] y g = elim g [ ]
 given-first (x ∷ xs) y (here h w) = rw (h, w)
 given-first (x ∷ xs) y (later h g) = rw h (given-first xs y g)
 

@@ -1,5 +1,7 @@
 // The scope's words, its limits, and the numbers of its refusals for programs that print them. No other function stands here: specs/ says what is right, and
 // proofs/ shows what follows from it.
+#![tactic(auto)]
+
 ghost use Rattle.std.specs.Prelude.{◌≡◌};
 ghost use Rattle.model.specs.Numbers.{numbers, in_limits};
 ghost use Rattle.model.specs.Words.{number_of};
@@ -13,14 +15,14 @@ pub const USUAL_WRITE: u64 = 10;
 pub const MOST_SERVED: u64 = 1000000000;
 
 // What a request asks of a page.
-#[derive(Drop)]
+#[derive(Clone, Copy)]
 pub enum Op {
     Read,
     Write,
 }
 
 // Where a page is: at a place of C, at a place of D, or in no frame.
-#[derive(Drop)]
+#[derive(Clone, Copy)]
 pub enum Place {
     InClean(usize),
     InDirty(usize),
@@ -28,7 +30,7 @@ pub enum Place {
 }
 
 // Which frame a fault takes: the one at a place of E, of C or of D.
-#[derive(Drop)]
+#[derive(Clone, Copy)]
 pub enum Choice {
     OfEmpty(usize),
     OfClean(usize),
@@ -36,7 +38,7 @@ pub enum Choice {
 }
 
 // The page that had to leave the frame that a fault took.
-#[derive(Drop)]
+#[derive(Clone, Copy)]
 pub enum Victim {
     None,
     Clean(usize),
@@ -44,7 +46,7 @@ pub enum Victim {
 }
 
 // Why something is refused. `number_of` gives the scope's number of each.
-#[derive(Drop)]
+#[derive(Clone, Copy)]
 pub enum Refusal {
     OutOfLimits,
     BrokenPool,
@@ -62,14 +64,14 @@ pub enum Refusal {
 }
 
 // Whether something is refused, before anything is done.
-#[derive(Drop)]
+#[derive(Clone, Copy)]
 pub enum Verdict {
     Fine,
     Refused(Refusal),
 }
 
 // What a read or a write answers.
-#[derive(Drop)]
+#[derive(Clone, Copy)]
 pub enum Answer {
     Refused(Refusal),
     Hit,
@@ -77,42 +79,42 @@ pub enum Answer {
 }
 
 // What opening answers.
-#[derive(Drop)]
+#[derive(Clone, Copy)]
 pub enum Opening {
     Refused(Refusal),
     Opened,
 }
 
 // What a flush answers: how many pages it wrote.
-#[derive(Drop)]
+#[derive(Clone, Copy)]
 pub enum Flushing {
     Refused(Refusal),
     Wrote(usize),
 }
 
 // What a drop answers: "there is no further answer".
-#[derive(Drop)]
+#[derive(Clone, Copy)]
 pub enum Dropping {
     Refused(Refusal),
     Dropped,
 }
 
 // What the total answers: the cost of all physical reads and writes.
-#[derive(Drop)]
+#[derive(Clone, Copy)]
 pub enum Costing {
     Refused(Refusal),
     Total(u64),
 }
 
 // What the start of two windows and a report answer: there is no further answer.
-#[derive(Drop)]
+#[derive(Clone, Copy)]
 pub enum Timing {
     Refused(Refusal),
     Noted,
 }
 
 // What is kept of a window of times: how many of its places are filled, which comes next, and the sum of its times.
-#[derive(Drop)]
+#[derive(Clone, Copy)]
 pub struct Window {
     pub fill: usize,
     pub next: usize,
@@ -120,7 +122,7 @@ pub struct Window {
 }
 
 // What is kept of the two windows of `n` times, those of physical reads and those of physical writes.
-#[derive(Drop)]
+#[derive(Clone, Copy)]
 pub struct Kept {
     pub n: usize,
     pub reads: Window,

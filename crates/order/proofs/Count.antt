@@ -5,7 +5,7 @@
 --     count-down_from-below, count-down_from-above    the numbers below b, each once
 --     count-length-le, count-length, count-once    the pigeonhole: b numbers below b, none of them twice, are all of them
 -- Assumes nothing.
-use mathlib.Core.Path.{◌≡◌, refl, sym, ◌∙◌}
+use mathlib.Core.Path.{◌≡◌, refl, sym, subst, ◌∙◌}
 use mathlib.Core.Logic.{dite, ◌≢◌, ⊎_elim}
 use mathlib.Core.List.{List, [], ◌∷◌, ◌++◌}
 use Prim.Native.Nat.{ℕ, zero, suc, ◌+◌, ◌≤◌, ◌<◌}
@@ -87,7 +87,9 @@ pub count-down_from-below : (b f : ℕ) → f < b → count f (down_from b) ≡ 
 count-down_from-below zero f h = absurd (not-suc-le-zero h)
 count-down_from-below (suc b) f h =
     ⊎_elim
-    (λ (e : f ≡ b). rw e (omega (arith, bit-same b, count-down_from-above b b (omega arith))))
+    (λ (e : f ≡ b).
+    let here : bit (eqb b f) ≡ 1 = rw (eq-eqb b f (sym e)) in
+    omega (arith, here, count-down_from-above b f (omega arith)))
     (λ (l : f < b). omega (arith, bit-other b f (λ e. omega arith), count-down_from-below b f l))
     (eq-or-lt_of_le (le_of_suc-le-suc h))
 
@@ -135,5 +137,5 @@ module _ (b : ℕ) (xs : List ℕ) where
       one-more : count f xs ≡ 0 → (g : ℕ) → count g (f ∷ xs) ≤ count g (down_from b)
       one-more z g =
           dite (ℕ_discrete f g)
-          (λ e. rw (← e) (omega (arith, bit-same f, count-down_from-below b f h)))
+          (λ e. subst (λ (k : ℕ). count k (f ∷ xs) ≤ count k (down_from b)) e (omega (arith, bit-same f, z, count-down_from-below b f h)))
           (λ n. omega (arith, bit-other f g n, others g))

@@ -1,5 +1,7 @@
 // Lists of frame numbers by last use, the most recent first: up to 64 of them in fixed places, with a length beside them.
 // A list is changed where it stands, in the places that have to change and no others; what that means on plain lists is said by the laws on `InPlaces`.
+#![tactic(auto)]
+
 ghost use Rattle.std.specs.Prelude.{◌≡◌, ◌∷◌, ℕ, ◌≤◌, ◌<◌, length, get_or, set, take};
 ghost use Rattle.order.specs.Lists.{remove_at, insert_at, move_to_front, down_from};
 ghost use Rattle.order.specs.Places.{places, InPlaces};
@@ -9,7 +11,7 @@ ghost use Rattle.order.specs.Find.{find_from, has_before};
 pub const PLACES: usize = 64;
 
 // Where a list has what was looked for.
-#[derive(Drop)]
+#[derive(Clone, Copy)]
 pub enum Found {
     At(usize),
     Nowhere,

@@ -1,5 +1,7 @@
 // The bytes of a page buffer: whole pages go between the frame memory and the store, a write goes to a stretch of a frame, and a page of the store is wiped.
 // Nothing here knows which page is wanted or which frame is given up: that is the policy's.
+#![tactic(auto)]
+
 ghost use Rattle.std.specs.Prelude.{◌≡◌, ◌+◌, ◌*◌, ◌≤◌, length, replicate};
 ghost use Rattle.order.specs.Places.{places};
 ghost use Rattle.pages.specs.Pages.{splice, page_of, with_page, InPages};

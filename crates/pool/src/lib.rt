@@ -1,5 +1,7 @@
 // The pool, the test whether it is sound, and a fresh one. The test takes any values at all, and reads each list, the pages and the reference numbers a fixed
 // number of times.
+#![tactic(auto)]
+
 ghost use Rattle.std.specs.Prelude.{◌≡◌, ◌+◌, ◌≤◌, length};
 ghost use Rattle.order.specs.Places.{places};
 ghost use Rattle.checks.specs.Tests.{Decides};
@@ -13,13 +15,13 @@ use model::MOST_SERVED;
 use order::PLACES;
 
 // Physical reads and physical writes are counted apart, and meet only in the total cost.
-#[derive(Drop)]
+#[derive(Clone, Copy)]
 pub struct Reads(pub u64);
 
-#[derive(Drop)]
+#[derive(Clone, Copy)]
 pub struct Writes(pub u64);
 
-#[derive(Drop)]
+#[derive(Clone, Copy)]
 pub struct Pool {
     // b, P and N: frames, 1 to 64; bytes of a page, 16 to 4,096; pages of the store, 1 to 65,536.
     pub frames: usize,

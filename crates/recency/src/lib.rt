@@ -1,5 +1,7 @@
 // Reference numbers: down C and down D they fall, from at most the served calls to at least 1, and none stands twice; an empty frame has 0. One merge of both
 // lists finds every fault, also a frame that stands twice, which has its number twice.
+#![tactic(auto)]
+
 ghost use Rattle.std.specs.Prelude.{◌≡◌, true, ℕ, ◌+◌, ◌≤◌, ◌<◌, length, get_or, take, drop};
 ghost use Rattle.order.specs.Places.{places};
 ghost use Rattle.order.specs.Merge.{merged};

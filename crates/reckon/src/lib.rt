@@ -1,4 +1,6 @@
 // What CASA reckons: the two steps of the target, and which frame a fault takes.
+#![tactic(auto)]
+
 ghost use Rattle.std.specs.Prelude.{◌≡◌, ◌+◌, ◌*◌, ◌≤◌};
 ghost use Rattle.order.specs.Places.{places};
 ghost use Rattle.model.specs.Numbers.{unit};

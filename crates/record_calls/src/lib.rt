@@ -1,10 +1,12 @@
 // Calls as data, served and recorded at once.
+#![tactic(auto)]
+
 use calls::{Call, Left, STRETCH, at_most};
 use pool::Pool;
 use recorder::{Recorded, Recorder, Recording};
 
 // The pool, its recorder, and a digest of what the recorded calls showed.
-#[derive(Drop)]
+#[derive(Clone, Copy)]
 pub struct Run {
     pub pool: Pool,
     pub recorder: Recorder,

@@ -1,5 +1,7 @@
 // CASA's calls that record what they serve: each serves its call and adds the record of it to a trace. A refused call records nothing, and the recorder's
 // answer is then the call's refusal. A call that is served stays served though its record is refused: the answer says 11 where the buffer is full.
+#![tactic(auto)]
+
 ghost use Rattle.std.specs.Prelude.{◌≡◌, [], ◌*◌, get_or};
 ghost use Rattle.model.specs.Times.{unmeasured};
 ghost use Rattle.model.specs.Run as run;
@@ -16,21 +18,21 @@ use recorder::{Recorded, Recorder};
 use trace::Record;
 
 // What a read or a write leaves, and what its record does.
-#[derive(Drop)]
+#[derive(Clone, Copy)]
 pub struct Noted {
     pub served: Served,
     pub recorded: Recorded,
 }
 
 // The same of a flush.
-#[derive(Drop)]
+#[derive(Clone, Copy)]
 pub struct NotedFlush {
     pub flushed: Flushed,
     pub recorded: Recorded,
 }
 
 // And of a drop.
-#[derive(Drop)]
+#[derive(Clone, Copy)]
 pub struct NotedDrop {
     pub dropped: Dropped,
     pub recorded: Recorded,

@@ -188,7 +188,8 @@ module _ {n : Numbers} {notes : List ℕ} {rs : List Record} {b₀ : List ℕ} {
 pub adds-wrote : {n : Numbers} {notes : List ℕ} {rs : List Record} {b₀ : List ℕ} {x : Tape} → Wrote n notes rs b₀ x
     → (qs : List Record) → Wrote n notes (rs ++ kept x qs) b₀ (after_adds x qs)
 adds-wrote w [] = rw append-nil w
-adds-wrote w (q ∷ qs) = rw (← append_assoc) (adds-wrote (add-wrote w q) qs)
+adds-wrote {rs = rs} {x = x} w (q ∷ qs) =
+    rw (← append_assoc) (adds-wrote {rs = rs ++ kept_by (add_verdict x.recorder q (length x.buffer)) q} (add-wrote w q) qs)
 
 -- one that is not refused is kept in front of those behind it
 kept-one : (x : Tape) (q : Record) (qs ls : List Record) → add_verdict x.recorder q (length x.buffer) ≡ Fine → kept (after_add x q) qs ≡ ls
@@ -202,7 +203,7 @@ kept-all w [] h m = refl
 kept-all {n} {notes} {rs} {b₀} {x} w (q ∷ qs) h m =
     let k : length (rs ++ q ∷ qs) ≡ length rs + (1 + length qs) = length-append rs (q ∷ qs) ∙ omega arith in
     let fine = add-fine w q h.0 (room-fewer (length notes) (length rs + 1) _ (length b₀) (omega arith) m) in
-    kept-one x q qs qs fine (kept-all (rw fine at (add-wrote w q)) qs h.1 (rw append_assoc m))
+    kept-one x q qs qs fine (kept-all {rs = rs ++ q ∷ []} (rw fine at (add-wrote w q)) qs h.1 (rw append_assoc m))
 
 -- once there is no room for one more, none is: one that is refused leaves all as it was
 kept-none : {n : Numbers} {notes : List ℕ} {rs : List Record} {b₀ : List ℕ} {x : Tape} → Wrote n notes rs b₀ x
@@ -220,7 +221,7 @@ pub kept-front : {n : Numbers} {notes : List ℕ} {rs : List Record} {b₀ : Lis
     → (qs : List Record) → RecordsIn n.N qs → (k : ℕ) × (kept x qs ≡ take k qs)
 kept-front w [] h = (0, refl)
 kept-front {n} {notes} {rs} {b₀} {x} w (q ∷ qs) h =
-    go (λ (v : Wrote n notes (rs ++ q ∷ []) b₀ (after_add x q)). kept-front v qs h.1) (room_for (length notes) (length rs + 1) (length b₀)) refl
+    go (λ (v : Wrote n notes (rs ++ q ∷ []) b₀ (after_add x q)). kept-front {rs = rs ++ q ∷ []} v qs h.1) (room_for (length notes) (length rs + 1) (length b₀)) refl
   where
     go : (Wrote n notes (rs ++ q ∷ []) b₀ (after_add x q) → (k : ℕ) × (kept (after_add x q) qs ≡ take k qs))
         → (t : Bool) → room_for (length notes) (length rs + 1) (length b₀) ≡ t → (k : ℕ) × (kept x (q ∷ qs) ≡ take k (q ∷ qs))

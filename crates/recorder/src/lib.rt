@@ -4,6 +4,8 @@
 //
 // Both costs 0 stay 0, 0 in the file, and whoever runs it opens with 1 and 4; a pool that was opened with 0, 0 works on 1 and 10. So record a pool with the
 // numbers that it holds, which in a sound pool are never 0: `record_casa::begin` takes them from it.
+#![tactic(auto)]
+
 ghost use Rattle.std.specs.Prelude.{◌≡◌, not, ◌≤◌};
 ghost use Rattle.model.specs.Numbers.{numbers};
 ghost use Rattle.trace.specs.Format.{is_end};
@@ -18,7 +20,7 @@ use trace::{Record, Trailer};
 
 // The numbers as a trailer holds them, where the records start in the buffer, and how many there are. It holds nothing that could contradict the buffer: that
 // is lent to each call, and may be another one.
-#[derive(Drop)]
+#[derive(Clone, Copy)]
 pub struct Recorder {
     pub frames: usize,
     pub page_bytes: usize,
@@ -31,20 +33,20 @@ pub struct Recorder {
 }
 
 // What `begin` and `add` answer.
-#[derive(Drop)]
+#[derive(Clone, Copy)]
 pub enum Recording {
     Refused(Refusal),
     Recorded,
 }
 
-#[derive(Drop)]
+#[derive(Clone, Copy)]
 pub struct Recorded {
     pub recorder: Recorder,
     pub answer: Recording,
 }
 
 // What `close` answers: how many bytes of the buffer are the trace.
-#[derive(Drop)]
+#[derive(Clone, Copy)]
 pub enum Closing {
     Refused(Refusal),
     Closed(usize),

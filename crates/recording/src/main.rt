@@ -1,5 +1,7 @@
 // Records runs of calls while they are served, closes each trace, reads it back and runs it on other memory: what each record showed must come again.
 // tests/recording.py says what must be printed.
+#![tactic(auto)]
+
 ghost use Rattle.std.specs.Prelude.{◌≤◌};
 
 use calls::chance::World;

@@ -1,4 +1,6 @@
 // Makes each call with every set of refusals at once, and prints what came out: the lowest number is given, and no byte changes.
+#![tactic(auto)]
+
 ghost use Rattle.std.specs.Prelude.{◌≤◌, length};
 
 use model::{Answer, Dropping, Flushing, Kept};

@@ -1,5 +1,7 @@
 // Reports times to windows of many sizes, and prints digests of all that the calls leave. Behind each report every call is made on copies of which one thing was
 // changed: most of them are refused. tests/times.py says what must be printed.
+#![tactic(auto)]
+
 ghost use Rattle.std.specs.Prelude.{◌≤◌};
 
 use calls::chance::{below, next};
@@ -16,7 +18,7 @@ const ROOM: usize = 32770;
 // ---- what came out
 
 // The digest of a run's calls so far, and how many calls of all runs gave each kind of answer.
-#[derive(Drop)]
+#[derive(Clone, Copy)]
 struct Tally {
     digest: u32,
     counts: [u64; KINDS],
@@ -103,7 +105,7 @@ fn try_all(
 // ---- a run
 
 // How far a run has come.
-#[derive(Drop)]
+#[derive(Clone, Copy)]
 struct Run {
     tally: Tally,
     kept: Kept,

@@ -1,4 +1,6 @@
 // A trace, read back and run on other memory: a digest of what each record shows there, for whoever recorded it to compare.
+#![tactic(auto)]
+
 use calls::Call;
 use calls::chance::World;
 use model::Refusal;
@@ -82,7 +84,7 @@ fn run_fine(trace: &[u8], world: World, trailer: Trailer) -> u32 {
 }
 
 // The digest, or why the reader refuses the trace.
-#[derive(Drop)]
+#[derive(Clone, Copy)]
 pub enum Again {
     Refused(Refusal),
     Shown(u32),

@@ -1,5 +1,7 @@
 // Makes hits whose steps have to be rounded, and prints what they leave of a target: P8 by the public calls, and steps that end in just a half by `step`,
 // with costs that no pool is opened with.
+#![tactic(auto)]
+
 ghost use Rattle.std.specs.Prelude.{◌<◌};
 ghost use Rattle.pool.specs.Pool.{Sound};
 

@@ -1,5 +1,7 @@
 // Reads one trace from standard input, serves each record on a store of zero bytes, and prints the listing. What is refused prints only that.
 // A branch that is marked 'Never' is not taken on a trace that `trace::check` finds fine. It prints all the same, so that a fault in the reason would show.
+#![tactic(auto)]
+
 ghost use Rattle.std.specs.Prelude.{◌≡◌, ◌≤◌};
 ghost use Rattle.casa.specs.Calls.{open_left, open_after};
 ghost use Rattle.trace.specs.Format.{numbers_in, recorded_on};

@@ -1,4 +1,6 @@
 // What serving a call asks, whatever the policy: whether it is refused, and why; and the bytes' part of a request.
+#![tactic(auto)]
+
 ghost use Rattle.std.specs.Prelude.{◌≡◌, true, ◌≤◌, length};
 ghost use Rattle.order.specs.Places.{places};
 ghost use Rattle.pages.specs.Pages.{InPages};

@@ -1,4 +1,6 @@
 // One request and one flush on a sound pool: where the page is, which frame is taken, and the pool afterwards. No byte of a page is touched here.
+#![tactic(auto)]
+
 ghost use Rattle.std.specs.Prelude.{◌≡◌, ℕ, ◌≤◌, ◌<◌, get_or, take};
 ghost use Rattle.order.specs.Places.{places};
 ghost use Rattle.order.specs.Find.{find_from};
@@ -15,7 +17,7 @@ use order::{Found, PLACES};
 use pool::{Pool, Writes};
 
 // What a request leaves: the pool, the frame that has the page, and the answer.
-#[derive(Drop)]
+#[derive(Clone, Copy)]
 pub struct Step {
     pub pool: Pool,
     pub frame: usize,
@@ -23,7 +25,7 @@ pub struct Step {
 }
 
 // A pool without the frame that a fault took, that frame, and the page that has to leave it.
-#[derive(Drop)]
+#[derive(Clone, Copy)]
 pub struct Freed {
     pub pool: Pool,
     pub frame: u8,

@@ -1,5 +1,7 @@
 // Makes the public calls in large numbers and prints digests of all that they leave: every short sequence on a small pool, random runs at every number of
 // frames, calls on pools in which one thing was changed, and calls with kept numbers. tests/sweep.py says what must be printed.
+#![tactic(auto)]
+
 ghost use Rattle.std.specs.Prelude.{◌≤◌};
 
 use calls::chance::World;
@@ -11,7 +13,7 @@ use turns::{Plan, Turn};
 // ---- what came out
 
 // The digest of the calls so far, and how many gave each kind of answer.
-#[derive(Drop)]
+#[derive(Clone, Copy)]
 struct Tally {
     digest: u32,
     counts: [u64; KINDS],
@@ -70,7 +72,7 @@ fn tell_counts(tally: Tally) {
 // ---- a run
 
 // How far a run has come.
-#[derive(Drop)]
+#[derive(Clone, Copy)]
 struct Run {
     tally: Tally,
     pool: Pool,

@@ -1,4 +1,6 @@
 // What the programs print alike, to standard output: words, numbers, refusals and answers.
+#![tactic(auto)]
+
 use libc::STDOUT_FILENO;
 use model::{Answer, Costing, Dropping, Flushing, Refusal, Victim};
 

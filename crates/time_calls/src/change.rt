@@ -9,7 +9,7 @@ use model::{Kept, Window};
 const FAR: u64 = 18446744073709551615;
 
 // What is changed in windows of n times: `which` says where, `then` which time goes there.
-#[derive(Drop)]
+#[derive(Clone, Copy)]
 pub struct Change {
     pub kept: Kept,
     pub n: usize,

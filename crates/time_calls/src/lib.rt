@@ -1,5 +1,7 @@
 // Calls of `times` as data, for a program that makes them in large numbers: start and both reports, on as many places as are lent. `change` makes up what is
 // lent to them.
+#![tactic(auto)]
+
 pub mod change;
 
 use calls::at_most;
@@ -10,7 +12,7 @@ use times::Timed;
 pub const MOST_TIME: u16 = 65535;
 
 // Kept numbers, and how many places of either window are lent with them.
-#[derive(Drop)]
+#[derive(Clone, Copy)]
 pub struct Lent {
     pub kept: Kept,
     pub reads: usize,

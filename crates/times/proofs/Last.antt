@@ -130,10 +130,10 @@ pub both-last : {n : ℕ} {R W : List ℕ} {x : Windows} → BothLast n R W x �
 both-last h [] = simp append-nil h
 both-last {n} {R} {W} {x} h (read_took t ∷ rs) =
     report-cases x (read_took t) (λ y. BothLast n (R ++ read_times (read_took t ∷ rs)) (W ++ write_times rs) (after_reports y rs)) h.right
-    (λ none. rw (eq-eqb t 0 none) (both-last h rs)) (λ some. rw (ne_eqb t 0 some, ← append_snoc) (both-last (read-last h t some) rs))
+    (λ none. rw (eq-eqb t 0 none) (both-last h rs)) (λ some. rw (ne_eqb t 0 some, ← append_snoc) (both-last {R = R ++ t ∷ []} (read-last h t some) rs))
 both-last {n} {R} {W} {x} h (write_took t ∷ rs) =
     report-cases x (write_took t) (λ y. BothLast n (R ++ read_times rs) (W ++ write_times (write_took t ∷ rs)) (after_reports y rs)) h.right
-    (λ none. rw (eq-eqb t 0 none) (both-last h rs)) (λ some. rw (ne_eqb t 0 some, ← append_snoc) (both-last (write-last h t some) rs))
+    (λ none. rw (eq-eqb t 0 none) (both-last h rs)) (λ some. rw (ne_eqb t 0 some, ← append_snoc) (both-last {W = W ++ t ∷ []} (write-last h t some) rs))
 
 -- ---- from fresh windows on
 

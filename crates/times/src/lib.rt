@@ -1,5 +1,7 @@
 // Times measured on the drive: the start of the two windows that the caller lends, and a report of each time. What is kept of the windows goes to the serving
 // calls.
+#![tactic(auto)]
+
 ghost use Rattle.std.specs.Prelude.{◌≡◌, ◌&&◌, eqb};
 ghost use Rattle.model.specs.Times.{length_fits};
 ghost use Rattle.model.specs.Refusals.{first};
@@ -9,7 +11,7 @@ ghost use Rattle.times.specs.Reports.{windows, read_took, write_took, windows_ri
 use model::{Kept, Refusal, Timing, Verdict};
 
 // What the start of two windows and a report return: the numbers that are kept, and the answer.
-#[derive(Drop)]
+#[derive(Clone, Copy)]
 pub struct Timed {
     pub kept: Kept,
     pub answer: Timing,

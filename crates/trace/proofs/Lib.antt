@@ -1,5 +1,5 @@
 -- The laws of `trace`: Bytes and Records for its own functions; Reading, Round (encoded, then read) and Back (read, then encoded) for its callers,
--- Trailers and Settled for both; Walk and Closing for the walks over a `Reader`. Assumes nothing.
+-- Trailers and Settled for both. Assumes nothing.
 mod Bytes
 pub mod Trailers
 mod Records
@@ -7,5 +7,3 @@ pub mod Settled
 pub mod Reading
 pub mod Round
 pub mod Back
-mod Walk
-mod Closing

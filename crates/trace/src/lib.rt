@@ -1,5 +1,7 @@
 // Trace files: the trailer that points back, the records, and the refusals 7, 1 and 8. Every function takes any bytes. A trace is read one record at a
 // time from the caller's bytes.
+#![tactic(auto)]
+
 pub mod reader;
 
 ghost use Rattle.std.specs.Prelude.{◌≡◌, cond as if-else, ◌+◌, ◌*◌, ◌≤◌, ◌<◌, ◌^◌, length};
@@ -12,7 +14,7 @@ ghost use Rattle.trace.specs.declared.Next.TheVariants.{Record as Found, End};
 use model::Refusal;
 
 // The trailer, raw as in the file.
-#[derive(Drop)]
+#[derive(Clone, Copy)]
 pub struct Trailer {
     pub distance: usize,
     pub records: usize,
@@ -24,20 +26,20 @@ pub struct Trailer {
 }
 
 // What a physical read and a physical write cost.
-#[derive(Drop)]
+#[derive(Clone, Copy)]
 pub struct Drive {
     pub read_cost: u64,
     pub write_cost: u64,
 }
 
 // Whether a trace is refused; else its trailer.
-#[derive(Drop)]
+#[derive(Clone, Copy)]
 pub enum Checked {
     Refused(Refusal),
     Fine(Trailer),
 }
 
-#[derive(Drop)]
+#[derive(Clone, Copy)]
 pub enum Record {
     Read(usize),
     Write(usize, u8),
@@ -46,7 +48,7 @@ pub enum Record {
 }
 
 // What the reader finds at a place.
-#[derive(Drop)]
+#[derive(Clone, Copy)]
 pub enum Next {
     Record(Record),
     End,

@@ -6,7 +6,7 @@ ghost use Rattle.trace.specs.Words.{next_says};
 
 use crate::{Next, first_place, place_after, record_at};
 
-#[derive(Drop)]
+#[derive(Clone, Copy)]
 pub struct Reader<'a> {
     pub trace: &'a [u8],
     pub place: usize,

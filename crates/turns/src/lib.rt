@@ -1,4 +1,6 @@
 // What a run does turn by turn: on which pool which call is made, and what of it counts. `change` spoils pools.
+#![tactic(auto)]
+
 mod change;
 
 use calls::chance::World;
@@ -8,7 +10,7 @@ use pool::Pool;
 
 // A sequence, by how many letters there are, the number whose digits at that base are its own, and its length; random calls; random calls, each followed by
 // every call on a changed pool; or random calls with kept numbers.
-#[derive(Drop)]
+#[derive(Clone, Copy)]
 pub enum Plan {
     Letters(usize, usize, usize),
     Random,
@@ -17,7 +19,7 @@ pub enum Plan {
 }
 
 // A call that is told is absorbed; the pool of one that stays is the run's from then on. `seed` is where chance goes on.
-#[derive(Drop)]
+#[derive(Clone, Copy)]
 pub struct Turn {
     pub pool: Pool,
     pub call: Call,

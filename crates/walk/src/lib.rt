@@ -1,5 +1,7 @@
 // Where no frame is empty, one walk along their pages tests that none stands twice: each page leaves a mark. Up to 1,024 pages each has a mark of its own;
 // of more, two may share one, and a page that meets a mark has to stand alone. A yes is sure; a no says nothing, and the test of pages decides.
+#![tactic(auto)]
+
 ghost use Rattle.std.specs.Prelude.{◌≡◌, true, [], ℕ, ◌≤◌, ◌<◌, length, get_or, take};
 ghost use Rattle.order.specs.Places.{places};
 ghost use Rattle.checks.specs.Tests.{PagesRight};

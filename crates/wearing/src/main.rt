@@ -1,5 +1,7 @@
 // Serves the same requests on a drive that stays young and on one that wears: what each call did there is reported behind it. Once both windows are full the
 // target's steps part, and then a victim. tests/times.py says what must be printed.
+#![tactic(auto)]
+
 use model::{Answer, Kept, Victim, Window};
 use pool::Pool;
 use tell::{number, word};
@@ -10,14 +12,14 @@ const READ_TIME: u16 = 100;
 const WRITE_TIME: u16 = 200;
 
 // What is kept of the times so far, what the next write will take, and how much slower the one after it.
-#[derive(Drop)]
+#[derive(Clone, Copy)]
 struct Drive {
     kept: Kept,
     write_time: u16,
     slower: u16,
 }
 
-#[derive(Drop)]
+#[derive(Clone, Copy)]
 struct Play {
     pool: Pool,
     drive: Drive,

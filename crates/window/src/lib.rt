@@ -1,4 +1,6 @@
 // One window of times: whether what is kept of it is true of its places, and how a time takes its place.
+#![tactic(auto)]
+
 ghost use Rattle.std.specs.Prelude.{◌≡◌, true, ◌≤◌, ◌<◌, length, set, replicate};
 ghost use Rattle.model.specs.Times.{most_times};
 ghost use Rattle.window.specs.Window.{sum_of, none_zero, next_right, window_right, place_after, window_after};
@@ -9,7 +11,7 @@ use model::Window;
 const MARK: u32 = 65536;
 
 // What one look through times finds: their sum, and whether none of them is 0.
-#[derive(Drop)]
+#[derive(Clone, Copy)]
 struct Tally {
     sum: u32,
     none_zero: bool,

@@ -1,4 +1,6 @@
 // The bytes of a record and of a trailer, put into a lent buffer from byte `at` on. Every other byte stays.
+#![tactic(auto)]
+
 ghost use Rattle.std.specs.Prelude.{◌≡◌, ◌∷◌, ◌+◌, ◌≤◌, length};
 ghost use Rattle.little.specs.Little.{bytes_of};
 ghost use Rattle.pages.specs.Pages.{splice};
