@@ -1,0 +1,22 @@
+-- `little::put` meets its contract. The loop's invariant: the bytes written, followed by the bytes of `rest` in the places that are left,
+-- are the bytes of `x`. A turn moves the low byte of `rest` from the second part to the first; at the end the second part is empty.
+-- The measure is how many places are left. Assumes nothing.
+use Rattle.std.proofs.Common.{refl, ◌-◌, arith, length-set, rules}
+use Rattle.little.proofs.Turns.{put-start, put-turn, put-end}
+use Rattle.little.proofs.put.Goals as goal
+
+pub loop-i-init : goal.loop-i-init
+loop-i-init c = (search rules, refl, put-start c.args.out.now _ _)
+
+pub loop-i-preserved : goal.loop-i-preserved
+loop-i-preserved c =
+    let l = c.loop-i in (
+      omega arith,
+      simp length-set l.invariant.1,
+      put-turn l.out _ _ l.i l.rest (omega arith) l.invariant.1 l.invariant.2,
+    )
+
+pub returns : goal.returns
+returns c =
+    let l = c.loop-i in
+    put-end l.out _ _ l.i l.rest (omega arith) l.invariant.1 l.invariant.2
