@@ -3,27 +3,26 @@
 --     decides-of, decides-test, decides-iff, decides-same    a test's answer
 -- Assumes nothing.
 use mathlib.Core.Path.{◌≡◌, refl, sym, ◌∙◌}
-use mathlib.Core.Bool.{Bool, true, false, not, false≢true}
+use mathlib.Core.Bool.{Bool, true, false, false≢true}
 use mathlib.Core.Logic.{◌≢◌}
-use borrow.Author.Tests.{not-true, not-false}
 use Rattle.checks.specs.Tests.{Decides}
 use Rattle.checks.proofs.Exact.{Exact, exact-self}
 
 -- ---- behind `if !test`
 
-pub test-passed : {s t : Bool} → s ≡ t → not s ≡ false → t ≡ true
-test-passed {s} e h = sym e ∙ not-false s h
+pub test-passed : {s t : Bool} → s ≡ t → s ≡ true → t ≡ true
+test-passed e h = sym e ∙ h
 
-pub test-refuted : {s t : Bool} → s ≡ t → not s ≡ true → t ≢ true
-test-refuted {s} e h x = false≢true (sym (not-true s h) ∙ e ∙ x)
+pub test-refuted : {s t : Bool} → s ≡ t → s ≡ false → t ≢ true
+test-refuted e h x = false≢true (sym h ∙ e ∙ x)
 
 module _ {A : Type 0} where
-  pub decides-passed : (t : Bool) → Decides t A → not t ≡ false → A
+  pub decides-passed : (t : Bool) → Decides t A → t ≡ true → A
   decides-passed true d e = d
-  decides-passed false d e = absurd (false≢true (sym e))
+  decides-passed false d e = absurd (false≢true e)
 
-  pub decides-refuted : (t : Bool) → Decides t A → not t ≡ true → A → ⊥
-  decides-refuted true d e x = false≢true e
+  pub decides-refuted : (t : Bool) → Decides t A → t ≡ false → A → ⊥
+  decides-refuted true d e x = false≢true (sym e)
   decides-refuted false d e x = d x
 
 -- ---- a test's answer

@@ -1,0 +1,11 @@
+-- `checks::page_test::all_blank` meets its contract. The loop's invariant: the frames from place `i` of the list on all have page 0 just if all n have it,
+-- since those passed have it. The measure is how many frames are left. Assumes nothing.
+use Rattle.std.proofs.Common.{◌≡◌, ◌-◌, ◌≤◌, take, drop}
+use Rattle.checks.specs.Tests.{blank_all}
+use Rattle.checks.proofs.page_test.all_blank.Given as goal
+
+abbrev pub invariant-loop-i : goal.invariant-loop-i
+invariant-loop-i l = (l.i ≤ l.n) × (blank_all l.page (drop l.i (take l.n l.list)) ≡ blank_all l.page (take l.n l.list))
+
+abbrev pub decreases-loop-i : goal.decreases-loop-i
+decreases-loop-i l = l.n - l.i
