@@ -1,15 +1,9 @@
 -- `writing::put_parts` meets its contract. Two elements are set and a number goes behind them, which is one `splice` of all four bytes. They lie within the
 -- buffer, whose length no write changes, so nothing wraps. Assumes nothing.
-use mathlib.Core.Path.{◌≡◌, refl, ap, ◌∙◌}
-use mathlib.Core.List.{List, [], ◌∷◌}
-use Prim.Native.Nat.{ℕ, ◌+◌, ◌≤◌}
-use native.Mathlib.Omega.{arith}
-use lib.ListN.{length, set, length-set}
-use borrow.Author.Rules.{rules}
+use Rattle.std.proofs.Common.{◌≡◌, refl, ap, ◌∙◌, List, [], ◌∷◌, ℕ, ◌+◌, ◌≤◌, arith, length, set, length-set}
 use Rattle.pages.specs.Pages.{splice}
 use Rattle.pages.proofs.Splice.{splice-set, splice-join, splice-length}
-use Rattle.writing.proofs.put_parts.Statement.{statement}
-use Rattle.writing.proofs.put_parts.Tie as tie
+use Rattle.writing.proofs.put_parts.Goals as goal
 
 two-set : (at a b : ℕ) (xs : List ℕ) → at + 2 ≤ length xs → set (set xs at a) (at + 1) b ≡ splice at (a ∷ b ∷ []) xs
 two-set at a b xs h =
@@ -21,17 +15,15 @@ two-set at a b xs h =
 parts-joined : (at a b : ℕ) (ys xs : List ℕ) → at + 2 ≤ length xs → splice (at + 2) ys (set (set xs at a) (at + 1) b) ≡ splice at (a ∷ b ∷ ys) xs
 parts-joined at a b ys xs h = ap (splice (at + 2) ys) (two-set at a b xs h) ∙ splice-join at 2 (a ∷ b ∷ []) ys xs refl (omega arith)
 
-same_length : tie.Need-same-length
-same_length c = simp length-set at c.before.before.put-number.auto.0
+pub bounds-buffer-at-2 : goal.bounds-buffer-at-2
+bounds-buffer-at-2 c = simp length-set (omega arith)
 
-returns : tie.Need-returns
+pub put_number-requires : goal.put_number-requires
+put_number-requires c = simp length-set (omega arith)
+
+pub shape_of-buffer : goal.shape_of-buffer
+shape_of-buffer c = simp length-set at c.put_number.auto.buffer
+
+pub returns : goal.returns
 returns c =
-    let s = c.before.before.before.before.before in
-    c.before.before.put-number.ensures ∙ parts-joined s.args.at _ _ _ s.args.buffer.now (omega arith)
-
-pub put-parts-spec : {M : Type 1} → statement M
-put-parts-spec =
-    tie.close
-    (tie.spec
-    (λ c. search rules) (λ c. search rules) (λ c. simp length-set (omega arith)) (λ c. search rules) (λ c κs. simp length-set (omega arith))
-    same_length returns)
+    c.put_number.ensures ∙ parts-joined c.args.at _ _ _ c.args.buffer.now (omega arith)
