@@ -1,0 +1,35 @@
+-- `casa::drop_page` meets its contract, by the verdict: refused, everything is as it was; else the call may be served. Assumes nothing.
+use Rattle.std.proofs.Common.{◌≡◌, sym, ◌∙◌}
+use Rattle.model.specs.Run.{Call, World, drop, verdict_of}
+use Rattle.model.proofs.Refusals.{drop-ready}
+use Rattle.pool.specs.declared.Pool.{Pool}
+use Rattle.casa.specs.Calls.{pools, world_of}
+use Rattle.casa.proofs.Calls.{sound-is, sound-sizes, call-refused, call-served, drop-verdict}
+use Rattle.casa.proofs.drop_page.Goals as goal
+use Rattle.casa.proofs.drop_page.Goals.{After-request_verdict-verdict}
+
+abbrev world : After-request_verdict-verdict → World Pool
+world c = let a = c.args in world_of a.pool a.frames.now a.store.now
+
+abbrev call : After-request_verdict-verdict → Call
+call c = drop c.args.page
+
+told : (c : After-request_verdict-verdict) → c.request_verdict-verdict.result ≡ verdict_of pools (world c) (call c)
+told c =
+    drop-verdict (world c) c.request_verdict-verdict.result c.sound-sound.result c.sound-sound.ensures c.args.page c.request_verdict-verdict.ensures
+
+pub request_verdict-verdict-requires : goal.request_verdict-verdict-requires
+request_verdict-verdict-requires c e = sound-sizes _ (sym c.sound-sound.ensures ∙ e)
+
+pub drop-next-requires : goal.drop-next-requires
+drop-next-requires c =
+    let ok = drop-ready pools (world (goal.at.drop-next-requires c).After-request_verdict-verdict) c.args.page (sym (told (goal.at.drop-next-requires c).After-request_verdict-verdict) ∙ c.in-Fine.is) in
+    record { sound = sound-is _ ok.0; ready = (ok.1, ok.2) }
+
+pub returns-in-Refused : goal.returns-in-Refused
+returns-in-Refused c = call-refused (world (goal.at.returns-in-Refused c).After-request_verdict-verdict) (call (goal.at.returns-in-Refused c).After-request_verdict-verdict) _ (told (goal.at.returns-in-Refused c).After-request_verdict-verdict) _ c.in-Refused.is
+
+pub returns-in-Fine : goal.returns-in-Fine
+returns-in-Fine c =
+    let told-fine = c.in-Fine.is in
+    c.drop-next.ensures ∙ call-served (world (goal.at.returns-in-Fine c).After-request_verdict-verdict) (call (goal.at.returns-in-Fine c).After-request_verdict-verdict) _ (told (goal.at.returns-in-Fine c).After-request_verdict-verdict) told-fine

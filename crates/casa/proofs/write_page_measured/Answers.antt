@@ -1,0 +1,41 @@
+-- `casa::write_page_measured` meets its contract, by the verdict: refused, everything is as it was; else the call may be served. Assumes nothing.
+use Rattle.std.proofs.Common.{◌≡◌, sym, ◌∙◌}
+use Rattle.model.specs.Times.{measured}
+use Rattle.model.specs.Run.{Call, World, write, verdict_of}
+use Rattle.model.proofs.Refusals.{write-clear, stretch-fits}
+use Rattle.pool.specs.declared.Pool.{Pool}
+use Rattle.casa.specs.Calls.{pools, world_of}
+use Rattle.casa.proofs.Calls.{sound-is, sound-sizes, call-refused, call-served, write-verdict}
+use Rattle.casa.proofs.write_page_measured.Goals as goal
+use Rattle.casa.proofs.write_page_measured.Goals.{After-request_verdict-verdict}
+
+abbrev world : After-request_verdict-verdict → World Pool
+world c = let a = c.args in world_of a.pool a.frames.now a.store.now
+
+abbrev call : After-request_verdict-verdict → Call
+call c = let a = c.args in write (measured a.kept) a.page a.start a.bytes.now
+
+told : (c : After-request_verdict-verdict) → c.request_verdict-verdict.result ≡ verdict_of pools (world c) (call c)
+told c =
+    let a = c.args in
+    let timed = c.kept_fits-timed in
+    let sound = c.sound-sound in
+    let fit = c.stretch_fits-fit in
+    write-verdict (world c) c.request_verdict-verdict.result sound.result sound.ensures (measured a.kept) timed.result a.page a.start
+    a.bytes.now fit.result c.request_verdict-verdict.ensures timed.ensures fit.ensures
+
+pub request_verdict-verdict-requires : goal.request_verdict-verdict-requires
+request_verdict-verdict-requires c e = sound-sizes _ (sym c.sound-sound.ensures ∙ e)
+
+pub write-wrote-requires : goal.write-wrote-requires
+write-wrote-requires c =
+    let a = c.args in
+    let ok = write-clear pools (world (goal.at.write-wrote-requires c).After-request_verdict-verdict) (measured a.kept) a.page a.start a.bytes.now (sym (told (goal.at.write-wrote-requires c).After-request_verdict-verdict) ∙ c.in-Fine.is) in
+    record { sound = (sound-is _ ok.0, ok.4); ready = (ok.1, ok.2); bytes_bound = (stretch-fits _ _ _ ok.3).1 }
+
+pub returns-in-Refused : goal.returns-in-Refused
+returns-in-Refused c = call-refused (world (goal.at.returns-in-Refused c).After-request_verdict-verdict) (call (goal.at.returns-in-Refused c).After-request_verdict-verdict) _ (told (goal.at.returns-in-Refused c).After-request_verdict-verdict) _ c.in-Refused.is
+
+pub returns-in-Fine : goal.returns-in-Fine
+returns-in-Fine c =
+    c.write-wrote.ensures ∙ call-served (world (goal.at.returns-in-Fine c).After-request_verdict-verdict) (call (goal.at.returns-in-Fine c).After-request_verdict-verdict) _ (told (goal.at.returns-in-Fine c).After-request_verdict-verdict) c.in-Fine.is
