@@ -1,0 +1,10 @@
+-- `digest::absorb_times` meets its contract: it ends, and every access is in range. The loop's invariant: i is at most the length. The measure is
+-- what is left of the times. Assumes nothing.
+use Rattle.std.proofs.Common.{◌≤◌, ◌-◌, length}
+use Rattle.digest.proofs.absorb_times.Given as goal
+
+abbrev pub invariant-loop-i : goal.invariant-loop-i
+invariant-loop-i l = l.i ≤ length l.times
+
+abbrev pub decreases-loop-i : goal.decreases-loop-i
+decreases-loop-i l = length l.times - l.i
