@@ -1,6 +1,6 @@
 -- `dirty::write_back_all` meets its contract. The loop's invariant: the frames from place i of the list on are in the store, which is as
 -- long as it was; a turn writes one frame more, whose part of `frames` is `page_of`. The measure is i. Assumes nothing.
-use Rattle.std.proofs.Common.{◌≡◌, ◌≤◌, ◌-◌, length, take, drop}
+use Rattle.std.proofs.Common.{◌≡◌, ◌≤◌, length, take, drop}
 use Rattle.pages.specs.Memory.{written_back}
 use Rattle.dirty.proofs.write_back_all.Given as goal
 

@@ -1,6 +1,6 @@
 -- `little::get` meets its contract. The loop goes from the last byte to the first; its invariant: `r` is the number that the bytes from `i` on
 -- spell. Of at most 8 bytes fewer than 8 are passed while one is left, so `r * 256` and a byte more fit. The measure is `i`. Assumes nothing.
-use Rattle.std.proofs.Common.{◌≡◌, ◌-◌, ◌≤◌, length, drop}
+use Rattle.std.proofs.Common.{◌≡◌, ◌≤◌, length, drop}
 use Rattle.little.specs.Little.{number_of}
 use Rattle.little.proofs.get.Given as goal
 

@@ -1,7 +1,7 @@
 -- `little::put_all` meets its contract. The loop's invariant: the first `i` parts of `out`, followed by the bytes of the numbers from `i` on,
 -- are the bytes of all numbers. A turn fills part `i`, which lies within `out` as `i` is below the count; so the ends of the part fit a `usize`.
 -- The measure is how many numbers are left. Assumes nothing.
-use Rattle.std.proofs.Common.{◌+◌, ◌-◌, ◌*◌, ◌≤◌, arith, length, rules}
+use Rattle.std.proofs.Common.{◌+◌, ◌*◌, ◌≤◌, arith, length, rules}
 use Rattle.little.proofs.Turns.{part-within, put_all-start, put_all-turn, put_all-end}
 use Rattle.little.proofs.put_all.Goals as goal
 use Rattle.little.proofs.put_all.Goals.{In-loop-i}

@@ -1,7 +1,7 @@
 -- `little::put_all` meets its contract. The loop's invariant: the first `i` parts of `out`, followed by the bytes of the numbers from `i` on,
 -- are the bytes of all numbers. A turn fills part `i`, which lies within `out` as `i` is below the count; so the ends of the part fit a `usize`.
 -- The measure is how many numbers are left. Assumes nothing.
-use Rattle.std.proofs.Common.{◌≡◌, ◌++◌, ◌+◌, ◌-◌, ◌*◌, ◌≤◌, length, take, drop}
+use Rattle.std.proofs.Common.{◌≡◌, ◌++◌, ◌-◌, ◌*◌, ◌≤◌, length, take, drop}
 use Rattle.little.specs.Little.{bytes_of_all}
 use Rattle.little.proofs.put_all.Given as goal
 

@@ -1,6 +1,6 @@
 -- `order::stands_before` meets its contract. The loop's invariant: the flag says whether the page stands before place `k`. The measure is how many
 -- places are left. Assumes nothing.
-use Rattle.std.proofs.Common.{◌≡◌, refl, sym, ◌∙◌, ⊎_elim, ◌-◌, arith, rules}
+use Rattle.std.proofs.Common.{◌≡◌, refl, sym, ◌∙◌, arith, rules}
 use Rattle.order.proofs.Search.{has_before-hit, has_before-miss}
 use Rattle.order.proofs.stands_before.Goals as goal
 use Rattle.order.proofs.stands_before.Goals.{then-page-k, else-page-k}

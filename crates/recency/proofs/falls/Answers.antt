@@ -1,6 +1,6 @@
 -- `recency::falls` meets its contract. The loop's invariant: the flag, and that the numbers from place `i` on fall from below the last one, together say
 -- what is asked of the list from the first place on. The measure is how many frames are left. Assumes nothing.
-use Rattle.std.proofs.Common.{refl, ◌-◌, rules}
+use Rattle.std.proofs.Common.{refl, rules}
 use Rattle.order.proofs.Lists.{drop-take-next, drop-take-end}
 use Rattle.recency.proofs.Falling.{falls-spoilt, falls-kept, falls-zero, falls-through}
 use Rattle.recency.proofs.falls.Goals as goal

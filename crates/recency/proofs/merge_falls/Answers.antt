@@ -1,6 +1,6 @@
 -- `recency::merge_falls` meets its contract. The loop's invariant: that the numbers of what is left of the merge fall from below the last one says what is
 -- asked of the whole merge. Where one list is through, the other is what is left. The measure is how many frames are left. Assumes nothing.
-use Rattle.std.proofs.Common.{◌≡◌, refl, sym, ap, ◌∙◌, true, ◌∷◌, ◌+◌, ◌-◌, ◌≤◌, ◌<◌, get_or, take, drop, rules}
+use Rattle.std.proofs.Common.{◌≡◌, refl, sym, ap, ◌∙◌, true, ◌∷◌, ◌+◌, ◌≤◌, ◌<◌, get_or, take, drop, rules}
 use Rattle.order.specs.Merge.{merged}
 use Rattle.order.proofs.Merged.{rest-first, rest-second, rest-takes-first, rest-takes-second}
 use Rattle.recency.specs.Recency.{falls_from}

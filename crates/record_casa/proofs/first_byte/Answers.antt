@@ -17,7 +17,7 @@ reaches : (c : Joined-frame-ne0) → c.args.frame * c.args.size ≤ length c.arg
 reaches c =
     let a = c.args in
     elim c.if-frame-ne0.branch [
-      then-frame-ne0+else-n-frame w ↦ within (length a.frames.now) a.frame a.size (omega (arith, w.if-n-frame.false))
+      | then-frame-ne0+else-n-frame w ↦ within (length a.frames.now) a.frame a.size (omega (arith, w.if-n-frame.false))
       | else-frame-ne0 w ↦ rw (w.if-frame-ne0.false, zero-mul) (omega arith)
     ]
 

@@ -1,6 +1,6 @@
 -- `walk::walk_far` meets its contract. The loop's invariant: where, with the marks as they are, each page from place `i` on meets no mark or stands alone,
 -- so does each of all with the marks as they were. The measure is how many pages are left. Assumes nothing.
-use Rattle.std.proofs.Common.{sym, ◌∙◌, ⊎_elim, ◌-◌, ◌<◌, arith, rules}
+use Rattle.std.proofs.Common.{sym, ◌∙◌, ◌<◌, arith, rules}
 use mathlib.Core.Bool.{false≢true}
 use Rattle.order.proofs.Lists.{drop-take-next, drop-take-end}
 use Rattle.walk.proofs.Far.{turn-apart}

@@ -1,6 +1,6 @@
 -- `window::clear` meets its contract. The loop's invariant: the first `i` places are zeros, and the rest is as it was; a turn's store makes one more
 -- zero, and at the end all are. The measure is what is left of the length. Assumes nothing.
-use Rattle.std.proofs.Common.{◌≡◌, refl, ◌∙◌, append-nil, ◌-◌, arith, length, length-set}
+use Rattle.std.proofs.Common.{◌≡◌, refl, ◌∙◌, append-nil, arith, length, length-set}
 use lib.Seq.{drop-length}
 use borrow.Author.Fill.{fill_more}
 use Rattle.window.proofs.clear.Goals as goal

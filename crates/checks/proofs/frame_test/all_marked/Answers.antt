@@ -1,6 +1,6 @@
 -- `checks::frame_test::all_marked` meets its contract. The loop's invariant: the flag, and that every place from `i` to `frames` is marked, together say
 -- what is asked of all the first `frames` places. The measure is how many places are left. Assumes nothing.
-use Rattle.std.proofs.Common.{refl, ap, not, ◌-◌, rules, eq-eqb, ne_eqb}
+use Rattle.std.proofs.Common.{refl, ap, not, rules, eq-eqb, ne_eqb}
 use Rattle.checks.specs.Tests.{is_some}
 use Rattle.order.proofs.Lists.{drop-take-next, drop-take-end}
 use Rattle.checks.proofs.Every.{every-spoilt, every-kept, every-end}

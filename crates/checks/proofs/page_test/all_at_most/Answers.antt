@@ -1,6 +1,6 @@
 -- `checks::page_test::all_at_most` meets its contract. The loop's invariant: the flag, and that every page from `i` to `frames` is at most `top`, together say
 -- what is asked of all the first `frames` pages. The measure is how many pages are left. Assumes nothing.
-use Rattle.std.proofs.Common.{refl, ◌-◌, rules, le-leb}
+use Rattle.std.proofs.Common.{refl, rules, le-leb}
 use borrow.Author.Tests.{lt-leb}
 use Rattle.checks.specs.Tests.{is_at_most}
 use Rattle.order.proofs.Lists.{drop-take-next, drop-take-end}

@@ -1,6 +1,6 @@
 -- `checks::page_test::count_in` meets its contract. The loop's invariant: what is counted so far and what stands from place `i` on is all, and at most `i`
 -- are counted, so that the count does not wrap. The measure is how many pages are left. Assumes nothing.
-use Rattle.std.proofs.Common.{◌-◌, arith, rules}
+use Rattle.std.proofs.Common.{arith, rules}
 use Rattle.order.proofs.Lists.{drop-take-next, drop-take-end}
 use Rattle.checks.proofs.Every.{tally-more, tally-same}
 use Rattle.checks.proofs.page_test.count_in.Goals as goal

@@ -1,6 +1,6 @@
 -- `checks::tails::zeros16` meets its contract. The loop's invariant: the flag, and that every place from `i` on holds 0, together say what is asked of the
 -- places from `from` on. The measure is how many places are left. Assumes nothing.
-use Rattle.std.proofs.Common.{refl, ◌-◌, ◌≤◌, ◌<◌, length, drop_of_length-le, rules, eq-eqb, ne_eqb}
+use Rattle.std.proofs.Common.{refl, ◌≤◌, ◌<◌, length, drop_of_length-le, rules, eq-eqb, ne_eqb}
 use Rattle.checks.specs.Tests.{is_zero}
 use Rattle.order.proofs.Lists.{drop-next}
 use Rattle.checks.proofs.Every.{every-spoilt, every-kept, every-end}
