@@ -2,4 +2,4 @@
 use Rattle.by_hand.proofs.main.Given as goal
 
 abbrev pub decreases-loop-rest : goal.decreases-loop-rest
-decreases-loop-rest g l = l.rest
+decreases-loop-rest l = l.rest
