@@ -5,6 +5,7 @@
 use calls::{at_most, chance};
 use model::{Answer, Dropping, Flushing, Refusal, Victim};
 use recorder::{Closing, Recorded, Recorder, Recording};
+use std::io;
 use trace::{Checked, Next, Record, Trailer, reader};
 
 const FAR: usize = 18446744073709551615;
@@ -275,7 +276,7 @@ fn try_begun(digest: u32, recorder: Recorder, chance: usize) -> u32 {
     absorb_closed(with_closed, copied, &other)
 }
 
-fn main() {
+fn main(rt: HostRuntime) -> io::Result<()> {
     let mut digest = digest::FULL;
     let mut seed = 1;
     let mut rest: usize = 40000;
@@ -286,6 +287,6 @@ fn main() {
         let chance = chance::next(seed);
         digest = try_by_hand(try_begun(digest, recorder, chance), recorder, chance);
     }
-    tell::digits(digest::printed(digest));
-    tell::end();
+    tell::digits(&rt, digest::printed(digest))?;
+    tell::end(&rt)
 }

@@ -2,40 +2,41 @@
 #![tactic(auto)]
 
 use model::{Answer, Costing, Flushing};
+use std::io;
 
-fn line(what: &[u8], n: u64) {
-    tell::word(what);
-    tell::digits(n);
-    tell::end();
+fn line(rt: &impl Print, what: &str, n: u64) -> io::Result<()> {
+    tell::word(rt, what)?;
+    tell::digits(rt, n)?;
+    tell::end(rt)
 }
 
-fn tell_byte(what: &[u8], byte: u8) {
-    line(what, byte as u64);
+fn tell_byte(rt: &impl Print, what: &str, byte: u8) -> io::Result<()> {
+    line(rt, what, byte as u64)
 }
 
-fn tell_read(answer: Answer, byte: u8) {
+fn tell_read(rt: &impl Print, answer: Answer, byte: u8) -> io::Result<()> {
     match answer {
-        Answer::Hit => tell_byte(b"a hit; byte 0 is ", byte),
-        Answer::Fault(_) => tell_byte(b"a fault; byte 0 is ", byte),
-        Answer::Refused(_) => tell_byte(b"refused; byte 0 is still ", byte),
+        Answer::Hit => tell_byte(rt, "a hit; byte 0 is ", byte),
+        Answer::Fault(_) => tell_byte(rt, "a fault; byte 0 is ", byte),
+        Answer::Refused(_) => tell_byte(rt, "refused; byte 0 is still ", byte),
     }
 }
 
-fn tell_flush(answer: Flushing) {
+fn tell_flush(rt: &impl Print, answer: Flushing) -> io::Result<()> {
     match answer {
-        Flushing::Wrote(pages) => line(b"pages written: ", pages as u64),
-        Flushing::Refused(_) => line(b"refused; pages written: ", 0),
+        Flushing::Wrote(pages) => line(rt, "pages written: ", pages as u64),
+        Flushing::Refused(_) => line(rt, "refused; pages written: ", 0),
     }
 }
 
-fn tell_total(answer: Costing) {
+fn tell_total(rt: &impl Print, answer: Costing) -> io::Result<()> {
     match answer {
-        Costing::Total(cost) => line(b"total cost: ", cost),
-        Costing::Refused(_) => line(b"refused; total cost: ", 0),
+        Costing::Total(cost) => line(rt, "total cost: ", cost),
+        Costing::Refused(_) => line(rt, "refused; total cost: ", 0),
     }
 }
 
-fn main() {
+fn main(rt: HostRuntime) -> io::Result<()> {
     // 2 frames and 8 pages of 16 bytes; both costs 0 mean the usual drive, on which a read costs 1 and a write 10.
     let mut frames = [0u8; 32];
     let mut store = [0u8; 128];
@@ -50,14 +51,14 @@ fn main() {
     let read = casa::read_page(marked, 7, &mut frames, &mut store, &mut out);
     let pool = read.pool;
     let answer = read.answer;
-    tell_read(answer, out[0]);
+    tell_read(&rt, answer, out[0])?;
 
-    tell_byte(b"in the store, before the flush: ", store[112]);
+    tell_byte(&rt, "in the store, before the flush: ", store[112])?;
     let flushed = casa::flush(pool, &frames, &mut store);
     let done = flushed.answer;
-    tell_flush(done);
-    tell_byte(b"in the store, after it: ", store[112]);
+    tell_flush(&rt, done)?;
+    tell_byte(&rt, "in the store, after it: ", store[112])?;
 
     let saved = flushed.pool;
-    tell_total(casa::total(saved));
+    tell_total(&rt, casa::total(saved))
 }

@@ -9,24 +9,26 @@ use calls::{at_most, chance};
 use record_calls::Run;
 use recorder::Closing;
 use rerun::Again;
+use std::io;
 use tell::{end, number, word};
 
 // ---- what is printed
 
-fn tell_digest(digest: u32) {
-    number(digest::printed(digest));
+fn tell_digest(rt: &impl Print, digest: u32) -> io::Result<()> {
+    number(rt, digest::printed(digest))
 }
 
-fn tell_byte(byte: u8) {
-    number(byte as u64);
+fn tell_byte(rt: &impl Print, byte: u8) -> io::Result<()> {
+    number(rt, byte as u64)
 }
 
-fn tell_bytes(bytes: &[u8]) {
+fn tell_bytes(rt: &impl Print, bytes: &[u8]) -> io::Result<()> {
     let mut i = 0;
     while i < bytes.len() {
-        tell_byte(bytes[i]);
+        tell_byte(rt, bytes[i])?;
         i += 1;
     }
+    Ok(())
 }
 
 // ---- a run that is recorded
@@ -78,39 +80,44 @@ fn record_sized(
 
 // ---- one recorded run
 
-fn tell_again(again: Again) {
+fn tell_again(rt: &impl Print, again: Again) -> io::Result<()> {
     match again {
-        Again::Refused(why) => tell::also_refused(why),
+        Again::Refused(why) => tell::also_refused(rt, why),
         Again::Shown(shown) => {
-            word(b" again");
-            tell_digest(shown);
+            word(rt, " again")?;
+            tell_digest(rt, shown)
         }
     }
 }
 
-fn tell_run(run: Run, world: World, buffer: &mut [u8]) {
-    let recorder = run.recorder;
-    let answer = recorder::close(recorder, buffer);
-    word(b" records");
-    number(recorder.records as u64);
-    word(b" buffer");
-    tell_digest(digest::absorb_bytes(digest::FULL, buffer));
-    word(b" shown");
-    tell_digest(run.shown);
+// What closing gave, and what comes of the trace when it is read back.
+fn tell_closing(rt: &impl Print, answer: Closing, world: World, buffer: &[u8]) -> io::Result<()> {
     match answer {
-        Closing::Refused(why) => tell::also_refused(why),
+        Closing::Refused(why) => tell::also_refused(rt, why),
         Closing::Closed(bytes) => {
-            word(b" closed");
-            number(bytes as u64);
+            word(rt, " closed")?;
+            number(rt, bytes as u64)?;
             let n = at_most(bytes, buffer.len());
-            tell_again(rerun::run_again(&buffer[0..n], world));
+            tell_again(rt, rerun::run_again(&buffer[0..n], world))
         }
     }
-    end();
+}
+
+fn tell_run(rt: &impl Print, run: Run, world: World, buffer: &mut [u8]) -> io::Result<()> {
+    let recorder = run.recorder;
+    let answer = recorder::close(recorder, buffer);
+    word(rt, " records")?;
+    number(rt, recorder.records as u64)?;
+    word(rt, " buffer")?;
+    tell_digest(rt, digest::absorb_bytes(digest::FULL, buffer))?;
+    word(rt, " shown")?;
+    tell_digest(rt, run.shown)?;
+    tell_closing(rt, answer, world, buffer)?;
+    end(rt)
 }
 
 // Calls by chance on a pool of so many frames, recorded from opening in a buffer that is lent whole.
-fn record_run(frames: usize, buffer: &mut [u8])
+fn record_run(rt: &impl Print, frames: usize, buffer: &mut [u8]) -> io::Result<()>
     requires { frames ≤ 8 }
 {
     let world = chance::world_of(frames);
@@ -135,30 +142,31 @@ fn record_run(frames: usize, buffer: &mut [u8])
         shown: digest::FULL,
     };
     let done = record_sized(run, world, &mut frame_memory, &mut store, &mut out, buffer);
-    word(b"run");
-    number(frames as u64);
-    tell_run(done, world, buffer);
+    word(rt, "run")?;
+    number(rt, frames as u64)?;
+    tell_run(rt, done, world, buffer)
 }
 
-fn record_runs() {
+fn record_runs(rt: &impl Print) -> io::Result<()> {
     let mut frames = 1;
     while frames < 9 {
         let mut buffer = [170u8; 512];
-        record_run(frames, &mut buffer);
+        record_run(rt, frames, &mut buffer)?;
         frames += 1;
     }
+    Ok(())
 }
 
 // Only the first ten of the records find room, and two bytes are left over: the whole buffer is told.
-fn record_little() {
+fn record_little(rt: &impl Print) -> io::Result<()> {
     let mut buffer = [170u8; 72];
-    record_run(2, &mut buffer);
-    word(b"bytes");
-    tell_bytes(&buffer);
-    end();
+    record_run(rt, 2, &mut buffer)?;
+    word(rt, "bytes")?;
+    tell_bytes(rt, &buffer)?;
+    end(rt)
 }
 
-fn main() {
-    record_runs();
-    record_little();
+fn main(rt: HostRuntime) -> io::Result<()> {
+    record_runs(&rt)?;
+    record_little(&rt)
 }

@@ -5,6 +5,7 @@ ghost use Rattle.std.specs.Prelude.{◌≤◌, length};
 
 use model::{Answer, Dropping, Flushing, Kept};
 use pool::Pool;
+use std::io;
 use tell::{end, number, word};
 
 // Whether bit k of a set of refusals is on: bit 0 stands for refusal 2, up to bit 4 for refusal 6, and bit 5 for refusal 13.
@@ -73,16 +74,16 @@ fn kept_of(set: usize) -> Kept {
 }
 
 // The line of a set starts with the call and the set.
-fn tell_set(what: &[u8], set: usize) {
-    word(what);
-    number(set as u64);
+fn tell_set(rt: &impl Print, what: &str, set: usize) -> io::Result<()> {
+    word(rt, what)?;
+    number(rt, set as u64)
 }
 
 // What the bytes add up to: a refused call leaves them all.
-fn tell_sums(frames: &[u8; 32], store: &[u8; 128]) {
-    word(b" bytes");
-    number(sum(frames));
-    number(sum(store));
+fn tell_sums(rt: &impl Print, frames: &[u8; 32], store: &[u8; 128]) -> io::Result<()> {
+    word(rt, " bytes")?;
+    number(rt, sum(frames))?;
+    number(rt, sum(store))
 }
 
 fn read_as(set: usize, frames: &mut [u8], store: &mut [u8], out: &mut [u8]) -> Answer
@@ -101,16 +102,16 @@ fn read_as(set: usize, frames: &mut [u8], store: &mut [u8], out: &mut [u8]) -> A
     served.answer
 }
 
-fn read_set(set: usize) {
+fn read_set(rt: &impl Print, set: usize) -> io::Result<()> {
     let mut frames = [1u8; 32];
     let mut store = [2u8; 128];
     let mut out = [3u8; 17];
     let answer = read_as(set, &mut frames, &mut store, &mut out);
-    tell_set(b"read set", set);
-    tell::answer(answer);
-    tell_sums(&frames, &store);
-    number(sum(&out));
-    end();
+    tell_set(rt, "read set", set)?;
+    tell::answer(rt, answer)?;
+    tell_sums(rt, &frames, &store)?;
+    number(rt, sum(&out))?;
+    end(rt)
 }
 
 fn write_as(set: usize, frames: &mut [u8], store: &mut [u8]) -> Answer
@@ -131,14 +132,14 @@ fn write_as(set: usize, frames: &mut [u8], store: &mut [u8]) -> Answer
     served.answer
 }
 
-fn write_set(set: usize) {
+fn write_set(rt: &impl Print, set: usize) -> io::Result<()> {
     let mut frames = [1u8; 32];
     let mut store = [2u8; 128];
     let answer = write_as(set, &mut frames, &mut store);
-    tell_set(b"write set", set);
-    tell::answer(answer);
-    tell_sums(&frames, &store);
-    end();
+    tell_set(rt, "write set", set)?;
+    tell::answer(rt, answer)?;
+    tell_sums(rt, &frames, &store)?;
+    end(rt)
 }
 
 fn flush_as(set: usize, frames: &[u8], store: &mut [u8]) -> Flushing
@@ -149,14 +150,14 @@ fn flush_as(set: usize, frames: &[u8], store: &mut [u8]) -> Flushing
     flushed.answer
 }
 
-fn flush_set(set: usize) {
+fn flush_set(rt: &impl Print, set: usize) -> io::Result<()> {
     let frames = [1u8; 32];
     let mut store = [2u8; 128];
     let answer = flush_as(set, &frames, &mut store);
-    tell_set(b"flush set", set);
-    tell::flush(answer);
-    tell_sums(&frames, &store);
-    end();
+    tell_set(rt, "flush set", set)?;
+    tell::flush(rt, answer)?;
+    tell_sums(rt, &frames, &store)?;
+    end(rt)
 }
 
 fn drop_as(set: usize, frames: &[u8], store: &mut [u8]) -> Dropping
@@ -167,41 +168,42 @@ fn drop_as(set: usize, frames: &[u8], store: &mut [u8]) -> Dropping
     dropped.answer
 }
 
-fn drop_set(set: usize) {
+fn drop_set(rt: &impl Print, set: usize) -> io::Result<()> {
     let frames = [1u8; 32];
     let mut store = [2u8; 128];
     let answer = drop_as(set, &frames, &mut store);
-    tell_set(b"drop set", set);
-    tell::drop(answer);
-    tell_sums(&frames, &store);
-    end();
+    tell_set(rt, "drop set", set)?;
+    tell::drop(rt, answer)?;
+    tell_sums(rt, &frames, &store)?;
+    end(rt)
 }
 
-fn total_set(set: usize) {
-    word(b"total");
-    tell::total(casa::total(pool_of(set)));
-    end();
+fn total_set(rt: &impl Print, set: usize) -> io::Result<()> {
+    word(rt, "total")?;
+    tell::total(rt, casa::total(pool_of(set)))?;
+    end(rt)
 }
 
 // The calls that take no kept numbers.
-fn other_sets(set: usize) {
-    flush_set(set);
-    drop_set(set);
-    total_set(set);
+fn other_sets(rt: &impl Print, set: usize) -> io::Result<()> {
+    flush_set(rt, set)?;
+    drop_set(rt, set)?;
+    total_set(rt, set)
 }
 
-fn sets() {
+fn sets(rt: &impl Print) -> io::Result<()> {
     let mut set = 0;
     while set < 64 {
-        read_set(set);
-        write_set(set);
+        read_set(rt, set)?;
+        write_set(rt, set)?;
         if set < 32 {
-            other_sets(set);
+            other_sets(rt, set)?;
         }
         set += 1;
     }
+    Ok(())
 }
 
-fn main() {
-    sets();
+fn main(rt: HostRuntime) -> io::Result<()> {
+    sets(&rt)
 }

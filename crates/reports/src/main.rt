@@ -7,6 +7,7 @@ ghost use Rattle.std.specs.Prelude.{◌≤◌};
 use calls::chance::{below, next};
 use calls::{KINDS, NOTED, at_most};
 use model::{Kept, Window};
+use std::io;
 use tell::{number, word};
 use time_calls::change::{Change, changed_copies};
 use time_calls::{MOST_TIME, lent_whole, make, time_by};
@@ -52,21 +53,21 @@ fn absorb_timed(tally: Tally, timed: Timed, reads: &[u16], writes: &[u16]) -> Ta
     Tally { digest, counts }
 }
 
-fn tell_run(n: usize, digest: u32) {
-    word(b"reports");
-    number(n as u64);
-    number(digest::printed(digest));
-    tell::end();
+fn tell_run(rt: &impl Print, n: usize, digest: u32) -> io::Result<()> {
+    word(rt, "reports")?;
+    number(rt, n as u64)?;
+    number(rt, digest::printed(digest))?;
+    tell::end(rt)
 }
 
-fn tell_counts(tally: Tally) {
+fn tell_counts(rt: &impl Print, tally: Tally) -> io::Result<()> {
     let counts = tally.counts;
-    word(b"reports noted");
-    number(counts[NOTED]);
-    word(b" refused");
-    number(counts[12]);
-    number(counts[13]);
-    tell::end();
+    word(rt, "reports noted")?;
+    number(rt, counts[NOTED])?;
+    word(rt, " refused")?;
+    number(rt, counts[12])?;
+    number(rt, counts[13])?;
+    tell::end(rt)
 }
 
 // ---- calls on changed copies
@@ -261,13 +262,14 @@ fn run_on(
 
 // A run of its own digest, told in a line.
 fn run_of(
+    rt: &impl Print,
     tally: Tally,
     n: usize,
     filled: usize,
     turns: usize,
     reads: &mut [u16],
     writes: &mut [u16],
-) -> Tally
+) -> io::Result<Tally>
     requires { (1 ≤ n) × (n ≤ 32769) × (filled ≤ 32769) }
 {
     let mut fresh = tally;
@@ -275,31 +277,41 @@ fn run_of(
     let m = at_most(n + 1, reads.len());
     let k = at_most(n + 1, writes.len());
     let done = run_on(fresh, n, filled, turns, &mut reads[0..m], &mut writes[0..k]);
-    tell_run(n, done.digest);
-    done
+    tell_run(rt, n, done.digest)?;
+    Ok(done)
 }
 
 // Windows of 1 to 40 times, from none filled on; either goes round three times.
-fn small(tally: Tally, reads: &mut [u16], writes: &mut [u16]) -> Tally {
+fn small(
+    rt: &impl Print,
+    tally: Tally,
+    reads: &mut [u16],
+    writes: &mut [u16],
+) -> io::Result<Tally> {
     let mut now = tally;
     let mut n = 1;
     while n <= 40 {
-        let after = run_of(now, n, 0, 8 * n + 20, reads, writes);
+        let after = run_of(rt, now, n, 0, 8 * n + 20, reads, writes)?;
         now = after;
         n += 1;
     }
-    now
+    Ok(now)
 }
 
 // Windows that are nearly full or full, up to the largest and one that is too large.
-fn large(tally: Tally, reads: &mut [u16], writes: &mut [u16]) -> Tally {
-    let thousand = run_of(tally, 1000, 995, 8, reads, writes);
-    let nearly = run_of(thousand, 32767, 32764, 8, reads, writes);
-    let largest = run_of(nearly, 32768, 32768, 8, reads, writes);
-    run_of(largest, 32769, 32769, 8, reads, writes)
+fn large(
+    rt: &impl Print,
+    tally: Tally,
+    reads: &mut [u16],
+    writes: &mut [u16],
+) -> io::Result<Tally> {
+    let thousand = run_of(rt, tally, 1000, 995, 8, reads, writes)?;
+    let nearly = run_of(rt, thousand, 32767, 32764, 8, reads, writes)?;
+    let largest = run_of(rt, nearly, 32768, 32768, 8, reads, writes)?;
+    run_of(rt, largest, 32769, 32769, 8, reads, writes)
 }
 
-fn main() {
+fn main(rt: HostRuntime) -> io::Result<()> {
     let mut reads = [0xEEEEu16; ROOM];
     let mut writes = [0xEEEEu16; ROOM];
     let counts = [0u64; KINDS];
@@ -307,6 +319,7 @@ fn main() {
         digest: digest::FULL,
         counts,
     };
-    let some = small(none, &mut reads, &mut writes);
-    tell_counts(large(some, &mut reads, &mut writes));
+    let some = small(&rt, none, &mut reads, &mut writes)?;
+    let all = large(&rt, some, &mut reads, &mut writes)?;
+    tell_counts(&rt, all)
 }

@@ -6,6 +6,7 @@ ghost use Rattle.std.specs.Prelude.{◌<◌};
 ghost use Rattle.pool.specs.Pool.{Sound};
 
 use pool::Pool;
+use std::io;
 use step::Step;
 use tell::{end, number, word};
 
@@ -27,35 +28,35 @@ fn with_target(pool: Pool, target: u64) -> Pool {
     next
 }
 
-fn tell_hit(what: &[u8], before: u64, after: u64) {
-    word(what);
-    word(b" hit from");
-    number(before);
-    word(b" to");
-    number(after);
-    end();
+fn tell_hit(rt: &impl Print, what: &str, before: u64, after: u64) -> io::Result<()> {
+    word(rt, what)?;
+    word(rt, " hit from")?;
+    number(rt, before)?;
+    word(rt, " to")?;
+    number(rt, after)?;
+    end(rt)
 }
 
 // ---- P8
 
-fn read_at(pool: Pool, target: u64) {
+fn read_at(rt: &impl Print, pool: Pool, target: u64) -> io::Result<()> {
     let mut frames = [0u8; 32];
     let mut store = [0u8; 128];
     let mut out = [0u8; 16];
     let before = with_target(pool, target);
     let read = casa::read_page(before, 0, &mut frames, &mut store, &mut out);
     let after = read.pool;
-    tell_hit(b"read", target, after.target);
+    tell_hit(rt, "read", target, after.target)
 }
 
-fn write_at(pool: Pool, target: u64) {
+fn write_at(rt: &impl Print, pool: Pool, target: u64) -> io::Result<()> {
     let mut frames = [0u8; 32];
     let mut store = [0u8; 128];
     let mark = [7u8];
     let before = with_target(pool, target);
     let wrote = casa::write_page(before, 1, 0, &mark, &mut frames, &mut store);
     let after = wrote.pool;
-    tell_hit(b"write", target, after.target);
+    tell_hit(rt, "write", target, after.target)
 }
 
 // ---- a half: with costs of 3 and 131,069 a read hit adds 1.5 units, a write hit takes 65,534.5
@@ -71,33 +72,34 @@ fn half_step(pool: Pool, writes: bool) -> Step
 }
 
 // A broken pool makes no step, and nothing is told.
-fn half_at(pool: Pool, target: u64, writes: bool, what: &[u8]) {
+fn half_at(rt: &impl Print, pool: Pool, target: u64, writes: bool, what: &str) -> io::Result<()> {
     let before = with_target(pool, target);
     if pool::sound(before) {
         if 1 < before.pages {
             let step = half_step(before, writes);
             let after = step.pool;
-            tell_hit(what, target, after.target);
+            tell_hit(rt, what, target, after.target)?;
         }
     }
+    Ok(())
 }
 
-fn half_read(pool: Pool, target: u64) {
-    half_at(pool, target, false, b"half, read");
+fn half_read(rt: &impl Print, pool: Pool, target: u64) -> io::Result<()> {
+    half_at(rt, pool, target, false, "half, read")
 }
 
-fn half_write(pool: Pool, target: u64) {
-    half_at(pool, target, true, b"half, write");
+fn half_write(rt: &impl Print, pool: Pool, target: u64) -> io::Result<()> {
+    half_at(rt, pool, target, true, "half, write")
 }
 
-fn main() {
+fn main(rt: HostRuntime) -> io::Result<()> {
     let pool = balanced();
-    read_at(pool, 65536);
-    write_at(pool, 65536);
-    half_read(pool, 0);
-    half_read(pool, 131070);
-    half_read(pool, 131071);
-    half_write(pool, 131072);
-    half_write(pool, 65535);
-    half_write(pool, 65534);
+    read_at(&rt, pool, 65536)?;
+    write_at(&rt, pool, 65536)?;
+    half_read(&rt, pool, 0)?;
+    half_read(&rt, pool, 131070)?;
+    half_read(&rt, pool, 131071)?;
+    half_write(&rt, pool, 131072)?;
+    half_write(&rt, pool, 65535)?;
+    half_write(&rt, pool, 65534)
 }

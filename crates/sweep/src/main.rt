@@ -7,6 +7,7 @@ ghost use Rattle.std.specs.Prelude.{◌≤◌};
 use calls::chance::World;
 use calls::{DROP, FAULT, FLUSH, HIT, KINDS, Left, TOTAL, chance};
 use pool::Pool;
+use std::io;
 use tell::{number, word};
 use turns::{Plan, Turn};
 
@@ -39,34 +40,41 @@ fn absorb_left(tally: Tally, left: Left, frames: &[u8], store: &[u8], out: &[u8]
     Tally { digest, counts }
 }
 
-fn tell_digest(digest: u32) {
-    number(digest::printed(digest));
-    tell::end();
+fn tell_digest(rt: &impl Print, digest: u32) -> io::Result<()> {
+    number(rt, digest::printed(digest))?;
+    tell::end(rt)
 }
 
 // How often each kind of answer came, from one kind to before another.
-fn tell_kinds(what: &[u8], counts: &[u64; KINDS], from: usize, end: usize)
+fn tell_kinds(
+    rt: &impl Print,
+    what: &str,
+    counts: &[u64; KINDS],
+    from: usize,
+    end: usize,
+) -> io::Result<()>
     requires { end ≤ 27 }
 {
-    word(what);
+    word(rt, what)?;
     let mut kind = from;
     while kind < end {
-        number(counts[kind]);
+        number(rt, counts[kind])?;
         kind += 1;
     }
+    Ok(())
 }
 
 // Faults without a victim, with a clean one and with a dirty one; refusals 2 to 6, and 13 for kept numbers of windows.
-fn tell_counts(tally: Tally) {
+fn tell_counts(rt: &impl Print, tally: Tally) -> io::Result<()> {
     let counts = tally.counts;
-    tell_kinds(b" hits", &counts, HIT, FAULT);
-    tell_kinds(b" faults", &counts, FAULT, FLUSH);
-    tell_kinds(b" flushes", &counts, FLUSH, TOTAL);
-    tell_kinds(b" totals", &counts, TOTAL, DROP);
-    tell_kinds(b" drops", &counts, DROP, KINDS);
-    tell_kinds(b" refused", &counts, 2, 7);
-    tell_kinds(b" windows", &counts, 13, 14);
-    tell::end();
+    tell_kinds(rt, " hits", &counts, HIT, FAULT)?;
+    tell_kinds(rt, " faults", &counts, FAULT, FLUSH)?;
+    tell_kinds(rt, " flushes", &counts, FLUSH, TOTAL)?;
+    tell_kinds(rt, " totals", &counts, TOTAL, DROP)?;
+    tell_kinds(rt, " drops", &counts, DROP, KINDS)?;
+    tell_kinds(rt, " refused", &counts, 2, 7)?;
+    tell_kinds(rt, " windows", &counts, 13, 14)?;
+    tell::end(rt)
 }
 
 // ---- a run
@@ -172,36 +180,52 @@ fn sequences(letters: usize, length: usize, count: usize, r: u64, w: u64) -> Tal
     tally
 }
 
-fn tell_sequences(name: &[u8], letters: usize, length: usize, count: usize, r: u64, w: u64) {
+fn tell_sequences(
+    rt: &impl Print,
+    name: &str,
+    letters: usize,
+    length: usize,
+    count: usize,
+    r: u64,
+    w: u64,
+) -> io::Result<()> {
     let tally = sequences(letters, length, count, r, w);
-    word(name);
-    number(r);
-    number(w);
-    number(length as u64);
-    tell_digest(tally.digest);
+    word(rt, name)?;
+    number(rt, r)?;
+    number(rt, w)?;
+    number(rt, length as u64)?;
+    tell_digest(rt, tally.digest)
 }
 
 // Lengths from 1 on, up to `most` sequences: with one letter more there are `letters` times as many.
-fn lengths(name: &[u8], letters: usize, most: usize, r: u64, w: u64)
+fn lengths(
+    rt: &impl Print,
+    name: &str,
+    letters: usize,
+    most: usize,
+    r: u64,
+    w: u64,
+) -> io::Result<()>
     requires { (2 ≤ letters) × (letters ≤ 10) × (most ≤ 117649) }
 {
     let mut count = letters;
     let mut length = 1;
     while count <= most {
-        tell_sequences(name, letters, length, count, r, w);
+        tell_sequences(rt, name, letters, length, count, r, w)?;
         count *= letters;
         length += 1;
     }
+    Ok(())
 }
 
 // Reads, writes and flushes, seven letters: lengths 1 to 6.
-fn small(r: u64, w: u64) {
-    lengths(b"small", 7, 117649, r, w);
+fn small(rt: &impl Print, r: u64, w: u64) -> io::Result<()> {
+    lengths(rt, "small", 7, 117649, r, w)
 }
 
 // Drops among them, ten letters: lengths 1 to 5.
-fn drops(r: u64, w: u64) {
-    lengths(b"drops", 10, 100000, r, w);
+fn drops(rt: &impl Print, r: u64, w: u64) -> io::Result<()> {
+    lengths(rt, "drops", 10, 100000, r, w)
 }
 
 // ---- runs by chance
@@ -241,29 +265,29 @@ fn run_world(tally: Tally, world: World, plan: Plan, turns: usize) -> Tally {
 }
 
 // A run for each number of frames, a line each, and last how often each answer came.
-fn runs(name: &[u8], plan: Plan, turns: usize) {
+fn runs(rt: &impl Print, name: &str, plan: Plan, turns: usize) -> io::Result<()> {
     let mut tally = fresh_tally();
     let mut frames = 1;
     while frames <= 64 {
         let world = chance::world_of(frames);
         tally.digest = digest::FULL;
         let after = run_world(tally, world, plan, turns);
-        word(name);
-        number(frames as u64);
-        tell_digest(after.digest);
+        word(rt, name)?;
+        number(rt, frames as u64)?;
+        tell_digest(rt, after.digest)?;
         tally = after;
         frames += 1;
     }
-    word(name);
-    tell_counts(tally);
+    word(rt, name)?;
+    tell_counts(rt, tally)
 }
 
-fn main() {
-    small(0, 0);
-    small(1, 1);
-    small(3, 2);
-    drops(3, 2);
-    runs(b"random", Plan::Random, 2000);
-    runs(b"broken", Plan::Broken, 1500);
-    runs(b"timed", Plan::Timed, 1000);
+fn main(rt: HostRuntime) -> io::Result<()> {
+    small(&rt, 0, 0)?;
+    small(&rt, 1, 1)?;
+    small(&rt, 3, 2)?;
+    drops(&rt, 3, 2)?;
+    runs(&rt, "random", Plan::Random, 2000)?;
+    runs(&rt, "broken", Plan::Broken, 1500)?;
+    runs(&rt, "timed", Plan::Timed, 1000)
 }

@@ -1,46 +1,45 @@
 // What the programs print alike, to standard output: words, numbers, refusals and answers.
 #![tactic(auto)]
 
-use libc::STDOUT_FILENO;
 use model::{Answer, Costing, Dropping, Flushing, Refusal, Victim};
+use std::io;
 
-pub fn word(text: &[u8]) {
-    io::write_all(STDOUT_FILENO, text);
+pub fn word(rt: &impl Print, text: &str) -> io::Result<()> {
+    rt.print(text)
 }
 
 // A number where a line starts, or after a word that ends with a space.
-pub fn digits(n: u64) {
-    io::print_decimal(STDOUT_FILENO, n);
+pub fn digits(rt: &impl Print, n: u64) -> io::Result<()> {
+    rt.print(n)
 }
 
 // A number, set off from what stands before it.
-pub fn number(n: u64) {
-    word(b" ");
-    digits(n);
+pub fn number(rt: &impl Print, n: u64) -> io::Result<()> {
+    print!(rt; " {n}")
 }
 
-pub fn end() {
-    word(b"\n");
+pub fn end(rt: &impl Print) -> io::Result<()> {
+    word(rt, "\n")
 }
 
 // A refusal by the scope's number, where a line starts with it.
-pub fn refused(why: Refusal) {
-    word(b"refused");
-    number(model::number_of(why));
+pub fn refused(rt: &impl Print, why: Refusal) -> io::Result<()> {
+    word(rt, "refused")?;
+    number(rt, model::number_of(why))
 }
 
 // A refusal within a line.
-pub fn also_refused(why: Refusal) {
-    word(b" ");
-    refused(why);
+pub fn also_refused(rt: &impl Print, why: Refusal) -> io::Result<()> {
+    word(rt, " ")?;
+    refused(rt, why)
 }
 
 // What a read or a write answers, without the victim: programs tell that in different words.
-pub fn result(answer: Answer) {
+pub fn result(rt: &impl Print, answer: Answer) -> io::Result<()> {
     match answer {
-        Answer::Refused(why) => also_refused(why),
-        Answer::Hit => word(b" hit"),
-        Answer::Fault(_) => word(b" fault"),
+        Answer::Refused(why) => also_refused(rt, why),
+        Answer::Hit => word(rt, " hit"),
+        Answer::Fault(_) => word(rt, " fault"),
     }
 }
 
@@ -53,60 +52,60 @@ pub fn victim_of(answer: Answer) -> Victim {
 }
 
 // What a total answers, within a line.
-pub fn total(answer: Costing) {
+pub fn total(rt: &impl Print, answer: Costing) -> io::Result<()> {
     match answer {
-        Costing::Refused(why) => also_refused(why),
-        Costing::Total(cost) => number(cost),
+        Costing::Refused(why) => also_refused(rt, why),
+        Costing::Total(cost) => number(rt, cost),
     }
 }
 
 // A victim by its kind and page, within a line.
-fn victim(victim: Victim) {
+fn victim(rt: &impl Print, victim: Victim) -> io::Result<()> {
     match victim {
-        Victim::None => {}
+        Victim::None => Ok(()),
         Victim::Clean(page) => {
-            word(b" clean");
-            number(page as u64);
+            word(rt, " clean")?;
+            number(rt, page as u64)
         }
         Victim::Dirty(page) => {
-            word(b" dirty");
-            number(page as u64);
+            word(rt, " dirty")?;
+            number(rt, page as u64)
         }
     }
 }
 
 // What a read or a write answers, with the victim.
-pub fn answer(answer: Answer) {
-    result(answer);
-    victim(victim_of(answer));
+pub fn answer(rt: &impl Print, answer: Answer) -> io::Result<()> {
+    result(rt, answer)?;
+    victim(rt, victim_of(answer))
 }
 
 // What a flush answers, within a line.
-pub fn flush(answer: Flushing) {
+pub fn flush(rt: &impl Print, answer: Flushing) -> io::Result<()> {
     match answer {
-        Flushing::Refused(why) => also_refused(why),
+        Flushing::Refused(why) => also_refused(rt, why),
         Flushing::Wrote(pages) => {
-            word(b" wrote");
-            number(pages as u64);
+            word(rt, " wrote")?;
+            number(rt, pages as u64)
         }
     }
 }
 
 // What a drop answers, within a line.
-pub fn drop(answer: Dropping) {
+pub fn drop(rt: &impl Print, answer: Dropping) -> io::Result<()> {
     match answer {
-        Dropping::Refused(why) => also_refused(why),
-        Dropping::Dropped => word(b" dropped"),
+        Dropping::Refused(why) => also_refused(rt, why),
+        Dropping::Dropped => word(rt, " dropped"),
     }
 }
 
 // What was counted, to the end of the line.
-pub fn counts(reads: u64, writes: u64, served: u64) {
-    word(b"physical reads");
-    number(reads);
-    word(b" writes");
-    number(writes);
-    word(b" served");
-    number(served);
-    end();
+pub fn counts(rt: &impl Print, reads: u64, writes: u64, served: u64) -> io::Result<()> {
+    word(rt, "physical reads")?;
+    number(rt, reads)?;
+    word(rt, " writes")?;
+    number(rt, writes)?;
+    word(rt, " served")?;
+    number(rt, served)?;
+    end(rt)
 }

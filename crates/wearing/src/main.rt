@@ -4,6 +4,7 @@
 
 use model::{Answer, Kept, Victim, Window};
 use pool::Pool;
+use std::io;
 use tell::{number, word};
 
 const READ_TIME: u16 = 100;
@@ -60,98 +61,102 @@ fn report(drive: Drive, answer: Answer, reads: &mut [u16], writes: &mut [u16]) -
 
 // ---- calls, told in a line
 
-fn tell_call(what: &[u8], page: usize) {
-    word(what);
-    number(page as u64);
+fn tell_call(rt: &impl Print, what: &str, page: usize) -> io::Result<()> {
+    word(rt, what)?;
+    number(rt, page as u64)
 }
 
 fn read(
+    rt: &impl Print,
     play: Play,
     page: usize,
     frames: &mut [u8],
     store: &mut [u8],
     reads: &mut [u16],
     writes: &mut [u16],
-) -> Play {
+) -> io::Result<Play> {
     let mut out = [0u8; 16];
     let before = play.drive;
     let served = casa::read_page_measured(play.pool, before.kept, page, frames, store, &mut out);
     let answer = served.answer;
     let pool = served.pool;
-    tell_call(b"read", page);
-    tell::answer(answer);
+    tell_call(rt, "read", page)?;
+    tell::answer(rt, answer)?;
     let drive = report(before, answer, reads, writes);
-    Play { pool, drive }
+    Ok(Play { pool, drive })
 }
 
 fn write(
+    rt: &impl Print,
     play: Play,
     page: usize,
     frames: &mut [u8],
     store: &mut [u8],
     reads: &mut [u16],
     writes: &mut [u16],
-) -> Play {
+) -> io::Result<Play> {
     let bytes = [7u8];
     let before = play.drive;
     let served = casa::write_page_measured(play.pool, before.kept, page, 0, &bytes, frames, store);
     let answer = served.answer;
     let pool = served.pool;
-    tell_call(b"write", page);
-    tell::answer(answer);
+    tell_call(rt, "write", page)?;
+    tell::answer(rt, answer)?;
     let drive = report(before, answer, reads, writes);
-    Play { pool, drive }
+    Ok(Play { pool, drive })
 }
 
 // A drop is one write. None is refused here.
 fn drop(
+    rt: &impl Print,
     play: Play,
     page: usize,
     frames: &[u8],
     store: &mut [u8],
     reads: &[u16],
     writes: &mut [u16],
-) -> Play {
+) -> io::Result<Play> {
     let dropped = casa::drop_page(play.pool, page, frames, store);
     let answer = dropped.answer;
     let pool = dropped.pool;
-    tell_call(b"drop", page);
-    tell::drop(answer);
+    tell_call(rt, "drop", page)?;
+    tell::drop(rt, answer)?;
     let drive = report_write(play.drive, reads, writes);
-    Play { pool, drive }
+    Ok(Play { pool, drive })
 }
 
-fn tell_window(what: &[u8], window: Window) {
-    word(what);
-    number(window.fill as u64);
-    number(window.sum);
+fn tell_window(rt: &impl Print, what: &str, window: Window) -> io::Result<()> {
+    word(rt, what)?;
+    number(rt, window.fill as u64)?;
+    number(rt, window.sum)
 }
 
 // The end of a call's line: the target, and of either window how many times it has and their sum.
-fn tell_state(play: Play) {
+fn tell_state(rt: &impl Print, play: Play) -> io::Result<()> {
     let pool = play.pool;
     let drive = play.drive;
     let kept = drive.kept;
-    word(b" target");
-    number(pool.target);
-    tell_window(b" reads", kept.reads);
-    tell_window(b" writes", kept.writes);
-    tell::end();
+    word(rt, " target")?;
+    number(rt, pool.target)?;
+    tell_window(rt, " reads", kept.reads)?;
+    tell_window(rt, " writes", kept.writes)?;
+    tell::end(rt)
 }
 
-fn tell_end(pool: Pool) {
-    word(b"physical reads");
-    number(pool.reads.0);
-    word(b" writes");
-    number(pool.writes.0);
-    word(b" total");
-    tell::total(casa::total(pool));
-    tell::end();
+fn tell_end(rt: &impl Print, pool: Pool) -> io::Result<()> {
+    word(rt, "physical reads")?;
+    number(rt, pool.reads.0)?;
+    word(rt, " writes")?;
+    number(rt, pool.writes.0)?;
+    word(rt, " total")?;
+    tell::total(rt, casa::total(pool))?;
+    tell::end(rt)
 }
 
 // ---- a script: each call is a letter and a digit, its page
 
 fn serve(
+    rt: &impl Print,
     play: Play,
     letter: u8,
     page: usize,
@@ -159,38 +164,39 @@ fn serve(
     store: &mut [u8],
     reads: &mut [u16],
     writes: &mut [u16],
-) -> Play {
+) -> io::Result<Play> {
     match letter {
-        b'R' => read(play, page, frames, store, reads, writes),
-        b'W' => write(play, page, frames, store, reads, writes),
-        _ => drop(play, page, frames, store, reads, writes),
+        b'R' => read(rt, play, page, frames, store, reads, writes),
+        b'W' => write(rt, play, page, frames, store, reads, writes),
+        _ => drop(rt, play, page, frames, store, reads, writes),
     }
 }
 
 fn serve_all(
+    rt: &impl Print,
     play: Play,
     script: &[u8],
     frames: &mut [u8; 48],
     store: &mut [u8; 128],
     reads: &mut [u16; 2],
     writes: &mut [u16; 2],
-) -> Pool {
+) -> io::Result<Pool> {
     let mut now = play;
     let mut k = 0;
     while k < script.len() / 2 {
         let letter = script[2 * k];
         let page = std::num::wrapping_sub_u8(script[2 * k + 1], b'0') as usize;
         k += 1;
-        let after = serve(now, letter, page, frames, store, reads, writes);
-        tell_state(after);
+        let after = serve(rt, now, letter, page, frames, store, reads, writes)?;
+        tell_state(rt, after)?;
         now = after;
     }
-    now.pool
+    Ok(now.pool)
 }
 
 // Three frames on the usual drive, and windows of two times. Pages 0 and 1 are dirty, page 2 is clean. Page 7 is in no frame: a drop of it is a write, and leaves
 // the lists. After the second one both windows are full.
-fn play_on(what: &[u8], slower: u16) {
+fn play_on(rt: &impl Print, what: &str, slower: u16) -> io::Result<()> {
     let mut frames = [0u8; 48];
     let mut store = [0u8; 128];
     let mut reads = [0u16; 2];
@@ -204,20 +210,21 @@ fn play_on(what: &[u8], slower: u16) {
         write_time: WRITE_TIME,
         slower,
     };
-    word(what);
-    tell::end();
+    word(rt, what)?;
+    tell::end(rt)?;
     let last = serve_all(
+        rt,
         Play { pool, drive },
         b"W0W1R2D7R2D7R2D7R2R3R2W1",
         &mut frames,
         &mut store,
         &mut reads,
         &mut writes,
-    );
-    tell_end(last);
+    )?;
+    tell_end(rt, last)
 }
 
-fn main() {
-    play_on(b"a young drive", 0);
-    play_on(b"a drive that wears", 800);
+fn main(rt: HostRuntime) -> io::Result<()> {
+    play_on(&rt, "a young drive", 0)?;
+    play_on(&rt, "a drive that wears", 800)
 }
