@@ -10,7 +10,6 @@ use Rattle.model.specs.Words.{answer_says}
 use Rattle.model.specs.Target.{Costs}
 use Rattle.model.specs.Times.{Times}
 use Rattle.model.specs.State.{State, page_in, resident}
-use Rattle.model.specs.Policy.{Outcome}
 use Rattle.model.specs.Refusals.{open_verdict}
 use Rattle.model.specs.Request.{locate, request}
 use Rattle.model.specs.Run.{Call, read, write, drop, World, Left, verdict_of, costs_in, left, after, after_all}

@@ -19,8 +19,8 @@ pub fn read_page_in(
     store: &mut [u8],
     out: &mut [u8],
 ) -> Answer
-    ensures { served_left (record { pool = pool.exit.now; answer = result }) frames.new store.new out.new
-        ≡ after pool.entry.now frames.old store.old (run.read unmeasured page out.old) }
+    ensures { served_left (record { pool = pool.new; answer = result }) frames.new store.new out.new
+        ≡ after pool.old frames.old store.old (run.read unmeasured page out.old) }
 {
     let done = casa::read_page(*pool, page, frames, store, out);
     *pool = done.pool;
@@ -36,8 +36,8 @@ pub fn write_page_in(
     frames: &mut [u8],
     store: &mut [u8],
 ) -> Answer
-    ensures { served_left (record { pool = pool.exit.now; answer = result }) frames.new store.new []
-        ≡ after pool.entry.now frames.old store.old (run.write unmeasured page start bytes.now) }
+    ensures { served_left (record { pool = pool.new; answer = result }) frames.new store.new []
+        ≡ after pool.old frames.old store.old (run.write unmeasured page start bytes.now) }
 {
     let done = casa::write_page(*pool, page, start, bytes, frames, store);
     *pool = done.pool;
@@ -53,8 +53,8 @@ pub fn read_page_measured_in(
     store: &mut [u8],
     out: &mut [u8],
 ) -> Answer
-    ensures { served_left (record { pool = pool.exit.now; answer = result }) frames.new store.new out.new
-        ≡ after pool.entry.now frames.old store.old (run.read (measured kept) page out.old) }
+    ensures { served_left (record { pool = pool.new; answer = result }) frames.new store.new out.new
+        ≡ after pool.old frames.old store.old (run.read (measured kept) page out.old) }
 {
     let done = casa::read_page_measured(*pool, kept, page, frames, store, out);
     *pool = done.pool;
@@ -71,8 +71,8 @@ pub fn write_page_measured_in(
     frames: &mut [u8],
     store: &mut [u8],
 ) -> Answer
-    ensures { served_left (record { pool = pool.exit.now; answer = result }) frames.new store.new []
-        ≡ after pool.entry.now frames.old store.old (run.write (measured kept) page start bytes.now) }
+    ensures { served_left (record { pool = pool.new; answer = result }) frames.new store.new []
+        ≡ after pool.old frames.old store.old (run.write (measured kept) page start bytes.now) }
 {
     let done = casa::write_page_measured(*pool, kept, page, start, bytes, frames, store);
     *pool = done.pool;
@@ -81,8 +81,8 @@ pub fn write_page_measured_in(
 
 // Writes every changed page to the store. Refused: 2, 3, 6.
 pub fn flush_in(pool: &mut Pool, frames: &[u8], store: &mut [u8]) -> Flushing
-    ensures { flushed_left (record { pool = pool.exit.now; answer = result }) frames.now store.new ≡
-        after pool.entry.now frames.now store.old run.flush }
+    ensures { flushed_left (record { pool = pool.new; answer = result }) frames.now store.new ≡
+        after pool.old frames.now store.old run.flush }
 {
     let done = casa::flush(*pool, frames, store);
     *pool = done.pool;
@@ -91,8 +91,8 @@ pub fn flush_in(pool: &mut Pool, frames: &[u8], store: &mut [u8]) -> Flushing
 
 // Cuts a page for good. Refused: 2, 3, 4, 6.
 pub fn drop_page_in(pool: &mut Pool, page: usize, frames: &[u8], store: &mut [u8]) -> Dropping
-    ensures { dropped_left (record { pool = pool.exit.now; answer = result }) frames.now store.new ≡
-        after pool.entry.now frames.now store.old (run.drop page) }
+    ensures { dropped_left (record { pool = pool.new; answer = result }) frames.now store.new ≡
+        after pool.old frames.now store.old (run.drop page) }
 {
     let done = casa::drop_page(*pool, page, frames, store);
     *pool = done.pool;
