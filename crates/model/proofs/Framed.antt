@@ -15,7 +15,7 @@ use Rattle.model.specs.Policy.{Outcome, Policy, pooled}
 use Rattle.model.specs.declared.Op.{Op}
 use Rattle.model.proofs.Outcomes.{cleaned_by}
 use Rattle.model.proofs.LastWritten.{Lawful}
-use Rattle.model.proofs.Frames.{frame-below, resident-has, step-frame, step-victim, step_right, step-content, flush-content, drop-content}
+use Rattle.model.proofs.Frames.{frame-below, resident-has, step-frame, step-victim, step-right, step-content, flush-content, drop-content}
 
 -- a request for page q of state s has outcome o
 pub record Stepped (π : Policy) (Good : π.State → Type 0) (frames : π.State → Frames) (op : Op) (s : π.State) (q : ℕ) (o : Outcome π.State) : Type 0 where
@@ -69,7 +69,7 @@ module _ (π : Policy) (k : Framed π) where
               good = t.good;
               frame = step-frame (π.numbers s) (k.frames s) p y op q o.frame o.answer t.step;
               victim = step-victim (π.numbers s) (k.frames s) p y op q o.frame o.answer t.step;
-              right = step_right (π.numbers s) (k.frames s) p y op q o.frame o.answer t.step;
+              right = step-right (π.numbers s) (k.frames s) p y op q o.frame o.answer t.step;
               contents = step-content (π.numbers s) (k.frames s) p y op q o.frame o.answer t.step;
             };
         flush = λ s g more.
@@ -94,18 +94,18 @@ module _ (π : Policy) (k : Framed π) where
   -- ---- in pools: a pool that is right holds a good state, and the pool made of a good state is right and holds it
 
   module _ (Pool : Type 0) (state_of : Pool → π.State) (pool_of : π.State → Pool) (sound : Pool → Bool) (Right : Pool → Type 0)
-      (Good-of : (p : Pool) → Right p → k.Good (state_of p)) (made : (s : π.State) → k.Good s → Right (pool_of s))
+      (good-of : (p : Pool) → Right p → k.Good (state_of p)) (made : (s : π.State) → k.Good s → Right (pool_of s))
       (back : (s : π.State) → k.Good s → state_of (pool_of s) ≡ s) where
     unfoldable pub framed-pooled : Framed (pooled π Pool state_of pool_of sound)
     framed-pooled =
         record {
           Good = Right;
           frames = λ p. k.frames (state_of p);
-          placed = λ p r. k.placed (state_of p) (Good-of p r);
+          placed = λ p r. k.placed (state_of p) (good-of p r);
           pages = λ p. k.pages (state_of p);
           request = λ op c p q r inside more.
               let o : Outcome π.State = π.request op c (state_of p) q in
-              let t = k.request op c (state_of p) q (Good-of p r) inside more in
+              let t = k.request op c (state_of p) q (good-of p r) inside more in
               let e = back o.state t.good in
               record {
                 step = subst (λ (z : π.State). Step op q o.frame o.answer (k.frames (state_of p)) (k.frames z)) (sym e) t.step;
@@ -113,7 +113,7 @@ module _ (π : Policy) (k : Framed π) where
                 good = made o.state t.good;
               };
           flush = λ p r more.
-              let t = k.flush (state_of p) (Good-of p r) more in
+              let t = k.flush (state_of p) (good-of p r) more in
               let e = back (π.flushed (state_of p)) t.good in
               record {
                 step = subst (λ (z : π.State). FlushStep (π.dirty (state_of p)) (k.frames (state_of p)) (k.frames z)) (sym e) t.step;
@@ -121,7 +121,7 @@ module _ (π : Policy) (k : Framed π) where
                 good = made (π.flushed (state_of p)) t.good;
               };
           drop = λ p q r inside more.
-              let t = k.drop (state_of p) q (Good-of p r) inside more in
+              let t = k.drop (state_of p) q (good-of p r) inside more in
               let e = back (π.dropped (state_of p) q) t.good in
               record {
                 step = subst (λ (z : π.State). DropStep q (k.frames (state_of p)) (k.frames z)) (sym e) t.step;

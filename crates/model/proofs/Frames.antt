@@ -198,12 +198,12 @@ module _ (n : Numbers) (x : Frames) (p : Placed n x) where
     absent-in : (v : Victim) → FaultStep op q f v x y → (g : ℕ) → Has q (content_in x g) → ⊥
     absent-in v t g a = let r = has-resident (x.resident g) (x.unsaved g) q _ a in t.absent g r.0 r.1
 
-    pub step_right : (a : Answer) → Step op q f a x y → AnswerRight (content_in x) q f a
-    step_right (Refused e) t = t
-    step_right Hit t = resident-has (x.resident f) (x.unsaved f) q _ t.here t.has
-    step_right (Fault None) t = (loose-empty (x.resident f) (x.unsaved f) _ t.victim, absent-in None t)
-    step_right (Fault (Clean w)) t = (loose-clean (x.resident f) (x.unsaved f) _ t.victim.1, absent-in (Clean w) t)
-    step_right (Fault (Dirty w)) t = (resident-has (x.resident f) (x.unsaved f) w _ t.victim.0 (sym t.victim.1), absent-in (Dirty w) t)
+    pub step-right : (a : Answer) → Step op q f a x y → AnswerRight (content_in x) q f a
+    step-right (Refused e) t = t
+    step-right Hit t = resident-has (x.resident f) (x.unsaved f) q _ t.here t.has
+    step-right (Fault None) t = (loose-empty (x.resident f) (x.unsaved f) _ t.victim, absent-in None t)
+    step-right (Fault (Clean w)) t = (loose-clean (x.resident f) (x.unsaved f) _ t.victim.1, absent-in (Clean w) t)
+    step-right (Fault (Dirty w)) t = (resident-has (x.resident f) (x.unsaved f) w _ t.victim.0 (sym t.victim.1), absent-in (Dirty w) t)
 
     pub step-content : (a : Answer) → Step op q f a x y → (g : ℕ) → content_in y g ≡ content_after op q f a (content_in x) g
     step-content (Refused e) t = absurd t

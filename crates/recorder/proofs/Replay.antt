@@ -43,8 +43,8 @@ use Rattle.recorder.specs.Runs.{recorded_by, after_recorded, after_recording, As
 
 -- ---- a page that a stretch fits has a byte 0
 
-first_fits : (P start n : ℕ) → stretch_fits P start n ≡ true → stretch_fits P 0 1 ≡ true
-first_fits P start n e = let a = stretch-fits P start n e in le-leb 1 P (omega arith)
+first-fits : (P start n : ℕ) → stretch_fits P start n ≡ true → stretch_fits P 0 1 ≡ true
+first-fits P start n e = let a = stretch-fits P start n e in le-leb 1 P (omega arith)
 
 -- ---- one call of a run
 
@@ -155,7 +155,7 @@ module _ (π : Policy) (ok : Lawful π) where
         → verdict_of π y (call_of out (Write q v)) ≡ Fine
     write-again t q start v out bytes e =
         let a = write-clear π x t q start bytes e in
-        request-again t q _ _ a (rw same at (first_fits (π.numbers x.state).P start (length bytes) a.3))
+        request-again t q _ _ a (rw same at (first-fits (π.numbers x.state).P start (length bytes) a.3))
 
     flush-again : (out : List ℕ) → verdict_of π x flush ≡ Fine → verdict_of π y (call_of out Flush) ≡ Fine
     flush-again out e =
