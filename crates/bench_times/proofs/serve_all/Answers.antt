@@ -1,6 +1,6 @@
 -- `bench_times::serve_all` meets its contract: it ends. The loop's invariant: i is at most the number of requests, and lent bytes and times keep their lengths. The
 -- measure is what is left of the requests. Assumes nothing.
-use Rattle.std.proofs.Common.{◌-◌, arith}
+use Rattle.std.proofs.Common.{arith}
 use Rattle.bench_times.proofs.serve_all.Goals as goal
 
 pub loop-i-preserved : goal.loop-i-preserved
