@@ -1,5 +1,5 @@
-// Reports times to windows of many sizes, and prints digests of all that the calls leave. Behind each report every call is made on copies of which one thing was
-// changed: most of them are refused. tests/times.py says what must be printed.
+// Reports times to windows of many sizes, and prints digests of all that the calls leave. Behind each report every call is made on copies of which one thing
+// was changed: most of them are refused. tests/times.py says what must be printed.
 #![tactic(auto)]
 
 ghost use Rattle.std.specs.Prelude.{◌≤◌};

@@ -194,8 +194,8 @@ fn serve_all(
     Ok(now.pool)
 }
 
-// Three frames on the usual drive, and windows of two times. Pages 0 and 1 are dirty, page 2 is clean. Page 7 is in no frame: a drop of it is a write, and leaves
-// the lists. After the second one both windows are full.
+// Three frames on the usual drive, and windows of two times. Pages 0 and 1 are dirty, page 2 is clean. Page 7 is in no frame: a drop of it is a write, and
+// leaves the lists. After the second one both windows are full.
 fn play_on(rt: &impl Print, what: &str, slower: u16) -> io::Result<()> {
     let mut frames = [0u8; 48];
     let mut store = [0u8; 128];
