@@ -9,13 +9,13 @@ use tell::{end, number, word};
 
 // ---- calls, told in a line
 
-fn tell_call(rt: &impl Print, what: &str, page: usize) -> io::Result<()> {
+fn tell_call(rt: &impl Print, what: &[u8], page: usize) -> io::Result<()> {
     word(rt, what)?;
     number(rt, page as u64)
 }
 
 fn tell_byte(rt: &impl Print, byte: u8) -> io::Result<()> {
-    word(rt, " byte")?;
+    word(rt, b" byte")?;
     number(rt, byte as u64)
 }
 
@@ -29,7 +29,7 @@ fn read(
     let mut out = [0xEEu8; 16];
     let served = casa::read_page(pool, page, frames, store, &mut out);
     let answer = served.answer;
-    tell_call(rt, "read", page)?;
+    tell_call(rt, b"read", page)?;
     tell::answer(rt, answer)?;
     tell_byte(rt, out[0])?;
     Ok(served.pool)
@@ -46,7 +46,7 @@ fn write(
     let bytes = [mark];
     let served = casa::write_page(pool, page, 0, &bytes, frames, store);
     let answer = served.answer;
-    tell_call(rt, "write", page)?;
+    tell_call(rt, b"write", page)?;
     tell::answer(rt, answer)?;
     Ok(served.pool)
 }
@@ -54,7 +54,7 @@ fn write(
 fn flush(rt: &impl Print, pool: Pool, frames: &[u8], store: &mut [u8]) -> io::Result<Pool> {
     let flushed = casa::flush(pool, frames, store);
     let answer = flushed.answer;
-    word(rt, "flush")?;
+    word(rt, b"flush")?;
     tell::flush(rt, answer)?;
     Ok(flushed.pool)
 }
@@ -68,15 +68,15 @@ fn drop(
 ) -> io::Result<Pool> {
     let dropped = casa::drop_page(pool, page, frames, store);
     let answer = dropped.answer;
-    tell_call(rt, "drop", page)?;
+    tell_call(rt, b"drop", page)?;
     tell::drop(rt, answer)?;
     Ok(dropped.pool)
 }
 
 fn tell_counts(rt: &impl Print, pool: Pool) -> io::Result<()> {
-    word(rt, "target")?;
+    word(rt, b"target")?;
     number(rt, pool.target)?;
-    word(rt, " ")?;
+    word(rt, b" ")?;
     tell::counts(rt, pool.reads.0, pool.writes.0, pool.served)
 }
 
@@ -103,11 +103,11 @@ fn serve(
 fn tell_empty(rt: &impl Print, pool: Pool) -> io::Result<()> {
     let empty = pool.empty;
     let n = pool.empty_len;
-    word(rt, " empty")?;
+    word(rt, b" empty")?;
     number(rt, n as u64)?;
     if 0 < n {
         if n <= PLACES {
-            word(rt, " last")?;
+            word(rt, b" last")?;
             number(rt, empty[n - 1] as u64)?;
         }
     }

@@ -13,7 +13,7 @@ use trace::{Checked, Next, Trailer};
 const FAR: usize = 18446744073709551615;
 
 fn tell_total(rt: &impl Print, pool: Pool) -> io::Result<()> {
-    word(rt, "total")?;
+    word(rt, b"total")?;
     tell::total(rt, casa::total(pool))?;
     end(rt)
 }
@@ -24,7 +24,7 @@ fn tell_opening(rt: &impl Print, answer: Opening, pool: Pool) -> io::Result<()> 
     match answer {
         Opening::Refused(why) => also_refused(rt, why),
         Opening::Opened => {
-            word(rt, " opened with costs")?;
+            word(rt, b" opened with costs")?;
             number(rt, pool.read_cost)?;
             number(rt, pool.write_cost)
         }
@@ -39,7 +39,7 @@ fn try_open(
     read_cost: u64,
     write_cost: u64,
 ) -> io::Result<()> {
-    word(rt, "open")?;
+    word(rt, b"open")?;
     number(rt, frames as u64)?;
     number(rt, page_bytes as u64)?;
     number(rt, pages as u64)?;
@@ -87,7 +87,7 @@ fn read(
     store: &mut [u8],
     out: &mut [u8],
 ) -> io::Result<Pool> {
-    word(rt, "read")?;
+    word(rt, b"read")?;
     number(rt, page as u64)?;
     let served = casa::read_page(pool, page, frames, store, out);
     tell_served(rt, served)
@@ -102,7 +102,7 @@ fn write(
     frames: &mut [u8],
     store: &mut [u8],
 ) -> io::Result<Pool> {
-    word(rt, "write")?;
+    word(rt, b"write")?;
     number(rt, page as u64)?;
     number(rt, start as u64)?;
     number(rt, bytes.len() as u64)?;
@@ -111,7 +111,7 @@ fn write(
 }
 
 fn flush(rt: &impl Print, pool: Pool, frames: &[u8], store: &mut [u8]) -> io::Result<Pool> {
-    word(rt, "flush")?;
+    word(rt, b"flush")?;
     let flushed = casa::flush(pool, frames, store);
     let answer = flushed.answer;
     let next = flushed.pool;
@@ -239,7 +239,7 @@ fn try_numbers(rt: &impl Print, pool: Pool, in_0: u32, in_1: u32) -> io::Result<
     reference[1] = in_1;
     let mut numbered = pool;
     numbered.reference = reference;
-    word(rt, "numbers")?;
+    word(rt, b"numbers")?;
     number(rt, in_0 as u64)?;
     number(rt, in_1 as u64)?;
     tell::total(rt, casa::total(numbered))?;
@@ -269,11 +269,11 @@ fn numbers_by_hand(rt: &impl Print) -> io::Result<()> {
 
 // The costs as the file has them, and those on which the trace was recorded.
 fn tell_costs(rt: &impl Print, trailer: Trailer) -> io::Result<()> {
-    word(rt, " costs")?;
+    word(rt, b" costs")?;
     number(rt, trailer.read_cost as u64)?;
     number(rt, trailer.write_cost as u64)?;
     let drive = trace::recorded_on(trailer);
-    word(rt, " recorded on")?;
+    word(rt, b" recorded on")?;
     number(rt, drive.read_cost)?;
     number(rt, drive.write_cost)
 }
@@ -282,7 +282,7 @@ fn tell_checked(rt: &impl Print, bytes: &[u8]) -> io::Result<()> {
     match trace::check(bytes) {
         Checked::Refused(why) => also_refused(rt, why),
         Checked::Fine(trailer) => {
-            word(rt, " read with records")?;
+            word(rt, b" read with records")?;
             number(rt, trailer.records as u64)?;
             tell_costs(rt, trailer)
         }
@@ -293,13 +293,13 @@ fn tell_checked(rt: &impl Print, bytes: &[u8]) -> io::Result<()> {
 fn tell_first(rt: &impl Print, bytes: &[u8]) -> io::Result<()> {
     let place = trace::first_place(bytes);
     match trace::record_at(bytes, place) {
-        Next::Record(_) => word(rt, " first there"),
-        Next::End => word(rt, " none"),
+        Next::Record(_) => word(rt, b" first there"),
+        Next::End => word(rt, b" none"),
     }
 }
 
 fn tell_trace(rt: &impl Print, bytes: &[u8]) -> io::Result<()> {
-    word(rt, "trace of")?;
+    word(rt, b"trace of")?;
     number(rt, bytes.len() as u64)?;
     tell_checked(rt, bytes)?;
     tell_first(rt, bytes)?;

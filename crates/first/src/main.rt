@@ -4,35 +4,35 @@
 use model::{Answer, Costing, Flushing};
 use std::io;
 
-fn line(rt: &impl Print, what: &str, n: u64) -> io::Result<()> {
+fn line(rt: &impl Print, what: &[u8], n: u64) -> io::Result<()> {
     tell::word(rt, what)?;
     tell::digits(rt, n)?;
     tell::end(rt)
 }
 
-fn tell_byte(rt: &impl Print, what: &str, byte: u8) -> io::Result<()> {
+fn tell_byte(rt: &impl Print, what: &[u8], byte: u8) -> io::Result<()> {
     line(rt, what, byte as u64)
 }
 
 fn tell_read(rt: &impl Print, answer: Answer, byte: u8) -> io::Result<()> {
     match answer {
-        Answer::Hit => tell_byte(rt, "a hit; byte 0 is ", byte),
-        Answer::Fault(_) => tell_byte(rt, "a fault; byte 0 is ", byte),
-        Answer::Refused(_) => tell_byte(rt, "refused; byte 0 is still ", byte),
+        Answer::Hit => tell_byte(rt, b"a hit; byte 0 is ", byte),
+        Answer::Fault(_) => tell_byte(rt, b"a fault; byte 0 is ", byte),
+        Answer::Refused(_) => tell_byte(rt, b"refused; byte 0 is still ", byte),
     }
 }
 
 fn tell_flush(rt: &impl Print, answer: Flushing) -> io::Result<()> {
     match answer {
-        Flushing::Wrote(pages) => line(rt, "pages written: ", pages as u64),
-        Flushing::Refused(_) => line(rt, "refused; pages written: ", 0),
+        Flushing::Wrote(pages) => line(rt, b"pages written: ", pages as u64),
+        Flushing::Refused(_) => line(rt, b"refused; pages written: ", 0),
     }
 }
 
 fn tell_total(rt: &impl Print, answer: Costing) -> io::Result<()> {
     match answer {
-        Costing::Total(cost) => line(rt, "total cost: ", cost),
-        Costing::Refused(_) => line(rt, "refused; total cost: ", 0),
+        Costing::Total(cost) => line(rt, b"total cost: ", cost),
+        Costing::Refused(_) => line(rt, b"refused; total cost: ", 0),
     }
 }
 
@@ -53,11 +53,11 @@ fn main(rt: HostRuntime) -> io::Result<()> {
     let answer = read.answer;
     tell_read(&rt, answer, out[0])?;
 
-    tell_byte(&rt, "in the store, before the flush: ", store[112])?;
+    tell_byte(&rt, b"in the store, before the flush: ", store[112])?;
     let flushed = casa::flush(pool, &frames, &mut store);
     let done = flushed.answer;
     tell_flush(&rt, done)?;
-    tell_byte(&rt, "in the store, after it: ", store[112])?;
+    tell_byte(&rt, b"in the store, after it: ", store[112])?;
 
     let saved = flushed.pool;
     tell_total(&rt, casa::total(saved))

@@ -84,7 +84,7 @@ fn tell_again(rt: &impl Print, again: Again) -> io::Result<()> {
     match again {
         Again::Refused(why) => tell::also_refused(rt, why),
         Again::Shown(shown) => {
-            word(rt, " again")?;
+            word(rt, b" again")?;
             tell_digest(rt, shown)
         }
     }
@@ -95,7 +95,7 @@ fn tell_closing(rt: &impl Print, answer: Closing, world: World, buffer: &[u8]) -
     match answer {
         Closing::Refused(why) => tell::also_refused(rt, why),
         Closing::Closed(bytes) => {
-            word(rt, " closed")?;
+            word(rt, b" closed")?;
             number(rt, bytes as u64)?;
             let n = at_most(bytes, buffer.len());
             tell_again(rt, rerun::run_again(&buffer[0..n], world))
@@ -106,11 +106,11 @@ fn tell_closing(rt: &impl Print, answer: Closing, world: World, buffer: &[u8]) -
 fn tell_run(rt: &impl Print, run: Run, world: World, buffer: &mut [u8]) -> io::Result<()> {
     let recorder = run.recorder;
     let answer = recorder::close(recorder, buffer);
-    word(rt, " records")?;
+    word(rt, b" records")?;
     number(rt, recorder.records as u64)?;
-    word(rt, " buffer")?;
+    word(rt, b" buffer")?;
     tell_digest(rt, digest::absorb_bytes(digest::FULL, buffer))?;
-    word(rt, " shown")?;
+    word(rt, b" shown")?;
     tell_digest(rt, run.shown)?;
     tell_closing(rt, answer, world, buffer)?;
     end(rt)
@@ -142,7 +142,7 @@ fn record_run(rt: &impl Print, frames: usize, buffer: &mut [u8]) -> io::Result<(
         shown: digest::FULL,
     };
     let done = record_sized(run, world, &mut frame_memory, &mut store, &mut out, buffer);
-    word(rt, "run")?;
+    word(rt, b"run")?;
     number(rt, frames as u64)?;
     tell_run(rt, done, world, buffer)
 }
@@ -161,7 +161,7 @@ fn record_runs(rt: &impl Print) -> io::Result<()> {
 fn record_little(rt: &impl Print) -> io::Result<()> {
     let mut buffer = [170u8; 72];
     record_run(rt, 2, &mut buffer)?;
-    word(rt, "bytes")?;
+    word(rt, b"bytes")?;
     tell_bytes(rt, &buffer)?;
     end(rt)
 }

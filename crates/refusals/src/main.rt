@@ -74,14 +74,14 @@ fn kept_of(set: usize) -> Kept {
 }
 
 // The line of a set starts with the call and the set.
-fn tell_set(rt: &impl Print, what: &str, set: usize) -> io::Result<()> {
+fn tell_set(rt: &impl Print, what: &[u8], set: usize) -> io::Result<()> {
     word(rt, what)?;
     number(rt, set as u64)
 }
 
 // What the bytes add up to: a refused call leaves them all.
 fn tell_sums(rt: &impl Print, frames: &[u8; 32], store: &[u8; 128]) -> io::Result<()> {
-    word(rt, " bytes")?;
+    word(rt, b" bytes")?;
     number(rt, sum(frames))?;
     number(rt, sum(store))
 }
@@ -107,7 +107,7 @@ fn read_set(rt: &impl Print, set: usize) -> io::Result<()> {
     let mut store = [2u8; 128];
     let mut out = [3u8; 17];
     let answer = read_as(set, &mut frames, &mut store, &mut out);
-    tell_set(rt, "read set", set)?;
+    tell_set(rt, b"read set", set)?;
     tell::answer(rt, answer)?;
     tell_sums(rt, &frames, &store)?;
     number(rt, sum(&out))?;
@@ -136,7 +136,7 @@ fn write_set(rt: &impl Print, set: usize) -> io::Result<()> {
     let mut frames = [1u8; 32];
     let mut store = [2u8; 128];
     let answer = write_as(set, &mut frames, &mut store);
-    tell_set(rt, "write set", set)?;
+    tell_set(rt, b"write set", set)?;
     tell::answer(rt, answer)?;
     tell_sums(rt, &frames, &store)?;
     end(rt)
@@ -154,7 +154,7 @@ fn flush_set(rt: &impl Print, set: usize) -> io::Result<()> {
     let frames = [1u8; 32];
     let mut store = [2u8; 128];
     let answer = flush_as(set, &frames, &mut store);
-    tell_set(rt, "flush set", set)?;
+    tell_set(rt, b"flush set", set)?;
     tell::flush(rt, answer)?;
     tell_sums(rt, &frames, &store)?;
     end(rt)
@@ -172,14 +172,14 @@ fn drop_set(rt: &impl Print, set: usize) -> io::Result<()> {
     let frames = [1u8; 32];
     let mut store = [2u8; 128];
     let answer = drop_as(set, &frames, &mut store);
-    tell_set(rt, "drop set", set)?;
+    tell_set(rt, b"drop set", set)?;
     tell::drop(rt, answer)?;
     tell_sums(rt, &frames, &store)?;
     end(rt)
 }
 
 fn total_set(rt: &impl Print, set: usize) -> io::Result<()> {
-    word(rt, "total")?;
+    word(rt, b"total")?;
     tell::total(rt, casa::total(pool_of(set)))?;
     end(rt)
 }

@@ -54,7 +54,7 @@ fn absorb_timed(tally: Tally, timed: Timed, reads: &[u16], writes: &[u16]) -> Ta
 }
 
 fn tell_run(rt: &impl Print, n: usize, digest: u32) -> io::Result<()> {
-    word(rt, "reports")?;
+    word(rt, b"reports")?;
     number(rt, n as u64)?;
     number(rt, digest::printed(digest))?;
     tell::end(rt)
@@ -62,9 +62,9 @@ fn tell_run(rt: &impl Print, n: usize, digest: u32) -> io::Result<()> {
 
 fn tell_counts(rt: &impl Print, tally: Tally) -> io::Result<()> {
     let counts = tally.counts;
-    word(rt, "reports noted")?;
+    word(rt, b"reports noted")?;
     number(rt, counts[NOTED])?;
-    word(rt, " refused")?;
+    word(rt, b" refused")?;
     number(rt, counts[12])?;
     number(rt, counts[13])?;
     tell::end(rt)

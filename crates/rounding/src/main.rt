@@ -28,11 +28,11 @@ fn with_target(pool: Pool, target: u64) -> Pool {
     next
 }
 
-fn tell_hit(rt: &impl Print, what: &str, before: u64, after: u64) -> io::Result<()> {
+fn tell_hit(rt: &impl Print, what: &[u8], before: u64, after: u64) -> io::Result<()> {
     word(rt, what)?;
-    word(rt, " hit from")?;
+    word(rt, b" hit from")?;
     number(rt, before)?;
-    word(rt, " to")?;
+    word(rt, b" to")?;
     number(rt, after)?;
     end(rt)
 }
@@ -46,7 +46,7 @@ fn read_at(rt: &impl Print, pool: Pool, target: u64) -> io::Result<()> {
     let before = with_target(pool, target);
     let read = casa::read_page(before, 0, &mut frames, &mut store, &mut out);
     let after = read.pool;
-    tell_hit(rt, "read", target, after.target)
+    tell_hit(rt, b"read", target, after.target)
 }
 
 fn write_at(rt: &impl Print, pool: Pool, target: u64) -> io::Result<()> {
@@ -56,7 +56,7 @@ fn write_at(rt: &impl Print, pool: Pool, target: u64) -> io::Result<()> {
     let before = with_target(pool, target);
     let wrote = casa::write_page(before, 1, 0, &mark, &mut frames, &mut store);
     let after = wrote.pool;
-    tell_hit(rt, "write", target, after.target)
+    tell_hit(rt, b"write", target, after.target)
 }
 
 // ---- a half: with costs of 3 and 131,069 a read hit adds 1.5 units, a write hit takes 65,534.5
@@ -72,7 +72,7 @@ fn half_step(pool: Pool, writes: bool) -> Step
 }
 
 // A broken pool makes no step, and nothing is told.
-fn half_at(rt: &impl Print, pool: Pool, target: u64, writes: bool, what: &str) -> io::Result<()> {
+fn half_at(rt: &impl Print, pool: Pool, target: u64, writes: bool, what: &[u8]) -> io::Result<()> {
     let before = with_target(pool, target);
     if pool::sound(before) {
         if 1 < before.pages {
@@ -85,11 +85,11 @@ fn half_at(rt: &impl Print, pool: Pool, target: u64, writes: bool, what: &str) -
 }
 
 fn half_read(rt: &impl Print, pool: Pool, target: u64) -> io::Result<()> {
-    half_at(rt, pool, target, false, "half, read")
+    half_at(rt, pool, target, false, b"half, read")
 }
 
 fn half_write(rt: &impl Print, pool: Pool, target: u64) -> io::Result<()> {
-    half_at(rt, pool, target, true, "half, write")
+    half_at(rt, pool, target, true, b"half, write")
 }
 
 fn main(rt: HostRuntime) -> io::Result<()> {

@@ -29,7 +29,7 @@ const MOST_PAGE: usize = 4096;
 fn tell_record(rt: &impl Print, why: Refusal) -> io::Result<()> {
     match why {
         Refusal::BadRecord(record) => {
-            word(rt, " at")?;
+            word(rt, b" at")?;
             number(rt, record as u64)
         }
         _ => Ok(()),
@@ -46,14 +46,14 @@ fn refused(rt: &impl Print, why: Refusal) -> io::Result<()> {
 // Victim and pages written back.
 fn tell_victim(rt: &impl Print, victim: Victim) -> io::Result<()> {
     match victim {
-        Victim::None => word(rt, " - 0"),
+        Victim::None => word(rt, b" - 0"),
         Victim::Clean(page) => {
             number(rt, page as u64)?;
-            word(rt, " 0")
+            word(rt, b" 0")
         }
         Victim::Dirty(page) => {
             number(rt, page as u64)?;
-            word(rt, " 1")
+            word(rt, b" 1")
         }
     }
 }
@@ -70,7 +70,7 @@ fn tell_pool(rt: &impl Print, pool: Pool) -> io::Result<()> {
 fn tell_request(
     rt: &impl Print,
     k: usize,
-    letter: &str,
+    letter: &[u8],
     page: usize,
     served: Served,
     byte: u8,
@@ -100,7 +100,7 @@ fn tell_flush(rt: &impl Print, answer: Flushing) -> io::Result<()> {
 fn tell_drop(rt: &impl Print, answer: Dropping) -> io::Result<()> {
     match answer {
         Dropping::Refused(why) => tell::also_refused(rt, why),
-        Dropping::Dropped => word(rt, " - - 1"),
+        Dropping::Dropped => word(rt, b" - - 1"),
     }
 }
 
@@ -124,7 +124,7 @@ fn read(
     out: &mut [u8],
 ) -> io::Result<Pool> {
     let served = casa::read_page(pool, page, frames, store, out);
-    tell_request(rt, k, " R", page, served, first_byte(out))
+    tell_request(rt, k, b" R", page, served, first_byte(out))
 }
 
 fn write(
@@ -138,7 +138,7 @@ fn write(
 ) -> io::Result<Pool> {
     let bytes = [value];
     let served = casa::write_page(pool, page, 0, &bytes, frames, store);
-    tell_request(rt, k, " W", page, served, value)
+    tell_request(rt, k, b" W", page, served, value)
 }
 
 fn flush(
@@ -152,10 +152,10 @@ fn flush(
     let answer = flushed.answer;
     let next = flushed.pool;
     tell::digits(rt, k as u64)?;
-    word(rt, " F - - -")?;
+    word(rt, b" F - - -")?;
     tell_flush(rt, answer)?;
     tell_pool(rt, next)?;
-    word(rt, " -\n")?;
+    word(rt, b" -\n")?;
     Ok(next)
 }
 
@@ -172,11 +172,11 @@ fn drop(
     let answer = dropped.answer;
     let next = dropped.pool;
     tell::digits(rt, k as u64)?;
-    word(rt, " D")?;
+    word(rt, b" D")?;
     number(rt, page as u64)?;
     tell_drop(rt, answer)?;
     tell_pool(rt, next)?;
-    word(rt, " 0\n")?;
+    word(rt, b" 0\n")?;
     Ok(next)
 }
 
@@ -229,7 +229,7 @@ fn serve_all(
 // ---- the whole
 
 fn tell_end(rt: &impl Print, pool: Pool) -> io::Result<()> {
-    word(rt, "end")?;
+    word(rt, b"end")?;
     number(rt, pool.reads.0)?;
     number(rt, pool.writes.0)?;
     tell::total(rt, casa::total(pool))?;
@@ -271,7 +271,7 @@ fn run(
     tell_opening(rt, answer)?;
     word(
         rt,
-        "request op page result victim writes clean dirty target byte\n",
+        b"request op page result victim writes clean dirty target byte\n",
     )?;
     let last = serve_all(rt, bytes, trailer.records, pool, frames, store, out)?;
     tell_end(rt, last)

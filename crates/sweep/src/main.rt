@@ -48,7 +48,7 @@ fn tell_digest(rt: &impl Print, digest: u32) -> io::Result<()> {
 // How often each kind of answer came, from one kind to before another.
 fn tell_kinds(
     rt: &impl Print,
-    what: &str,
+    what: &[u8],
     counts: &[u64; KINDS],
     from: usize,
     end: usize,
@@ -67,13 +67,13 @@ fn tell_kinds(
 // Faults without a victim, with a clean one and with a dirty one; refusals 2 to 6, and 13 for kept numbers of windows.
 fn tell_counts(rt: &impl Print, tally: Tally) -> io::Result<()> {
     let counts = tally.counts;
-    tell_kinds(rt, " hits", &counts, HIT, FAULT)?;
-    tell_kinds(rt, " faults", &counts, FAULT, FLUSH)?;
-    tell_kinds(rt, " flushes", &counts, FLUSH, TOTAL)?;
-    tell_kinds(rt, " totals", &counts, TOTAL, DROP)?;
-    tell_kinds(rt, " drops", &counts, DROP, KINDS)?;
-    tell_kinds(rt, " refused", &counts, 2, 7)?;
-    tell_kinds(rt, " windows", &counts, 13, 14)?;
+    tell_kinds(rt, b" hits", &counts, HIT, FAULT)?;
+    tell_kinds(rt, b" faults", &counts, FAULT, FLUSH)?;
+    tell_kinds(rt, b" flushes", &counts, FLUSH, TOTAL)?;
+    tell_kinds(rt, b" totals", &counts, TOTAL, DROP)?;
+    tell_kinds(rt, b" drops", &counts, DROP, KINDS)?;
+    tell_kinds(rt, b" refused", &counts, 2, 7)?;
+    tell_kinds(rt, b" windows", &counts, 13, 14)?;
     tell::end(rt)
 }
 
@@ -182,7 +182,7 @@ fn sequences(letters: usize, length: usize, count: usize, r: u64, w: u64) -> Tal
 
 fn tell_sequences(
     rt: &impl Print,
-    name: &str,
+    name: &[u8],
     letters: usize,
     length: usize,
     count: usize,
@@ -200,7 +200,7 @@ fn tell_sequences(
 // Lengths from 1 on, up to `most` sequences: with one letter more there are `letters` times as many.
 fn lengths(
     rt: &impl Print,
-    name: &str,
+    name: &[u8],
     letters: usize,
     most: usize,
     r: u64,
@@ -220,12 +220,12 @@ fn lengths(
 
 // Reads, writes and flushes, seven letters: lengths 1 to 6.
 fn small(rt: &impl Print, r: u64, w: u64) -> io::Result<()> {
-    lengths(rt, "small", 7, 117649, r, w)
+    lengths(rt, b"small", 7, 117649, r, w)
 }
 
 // Drops among them, ten letters: lengths 1 to 5.
 fn drops(rt: &impl Print, r: u64, w: u64) -> io::Result<()> {
-    lengths(rt, "drops", 10, 100000, r, w)
+    lengths(rt, b"drops", 10, 100000, r, w)
 }
 
 // ---- runs by chance
@@ -265,7 +265,7 @@ fn run_world(tally: Tally, world: World, plan: Plan, turns: usize) -> Tally {
 }
 
 // A run for each number of frames, a line each, and last how often each answer came.
-fn runs(rt: &impl Print, name: &str, plan: Plan, turns: usize) -> io::Result<()> {
+fn runs(rt: &impl Print, name: &[u8], plan: Plan, turns: usize) -> io::Result<()> {
     let mut tally = fresh_tally();
     let mut frames = 1;
     while frames <= 64 {
@@ -287,7 +287,7 @@ fn main(rt: HostRuntime) -> io::Result<()> {
     small(&rt, 1, 1)?;
     small(&rt, 3, 2)?;
     drops(&rt, 3, 2)?;
-    runs(&rt, "random", Plan::Random, 2000)?;
-    runs(&rt, "broken", Plan::Broken, 1500)?;
-    runs(&rt, "timed", Plan::Timed, 1000)
+    runs(&rt, b"random", Plan::Random, 2000)?;
+    runs(&rt, b"broken", Plan::Broken, 1500)?;
+    runs(&rt, b"timed", Plan::Timed, 1000)
 }

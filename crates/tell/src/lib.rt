@@ -4,8 +4,8 @@
 use model::{Answer, Costing, Dropping, Flushing, Refusal, Victim};
 use std::io;
 
-pub fn word(rt: &impl Print, text: &str) -> io::Result<()> {
-    rt.print(text)
+pub fn word(rt: &impl Print, text: &[u8]) -> io::Result<()> {
+    rt.write_all(text)
 }
 
 // A number where a line starts, or after a word that ends with a space.
@@ -19,18 +19,18 @@ pub fn number(rt: &impl Print, n: u64) -> io::Result<()> {
 }
 
 pub fn end(rt: &impl Print) -> io::Result<()> {
-    word(rt, "\n")
+    word(rt, b"\n")
 }
 
 // A refusal by the scope's number, where a line starts with it.
 pub fn refused(rt: &impl Print, why: Refusal) -> io::Result<()> {
-    word(rt, "refused")?;
+    word(rt, b"refused")?;
     number(rt, model::number_of(why))
 }
 
 // A refusal within a line.
 pub fn also_refused(rt: &impl Print, why: Refusal) -> io::Result<()> {
-    word(rt, " ")?;
+    word(rt, b" ")?;
     refused(rt, why)
 }
 
@@ -38,8 +38,8 @@ pub fn also_refused(rt: &impl Print, why: Refusal) -> io::Result<()> {
 pub fn result(rt: &impl Print, answer: Answer) -> io::Result<()> {
     match answer {
         Answer::Refused(why) => also_refused(rt, why),
-        Answer::Hit => word(rt, " hit"),
-        Answer::Fault(_) => word(rt, " fault"),
+        Answer::Hit => word(rt, b" hit"),
+        Answer::Fault(_) => word(rt, b" fault"),
     }
 }
 
@@ -64,11 +64,11 @@ fn victim(rt: &impl Print, victim: Victim) -> io::Result<()> {
     match victim {
         Victim::None => Ok(()),
         Victim::Clean(page) => {
-            word(rt, " clean")?;
+            word(rt, b" clean")?;
             number(rt, page as u64)
         }
         Victim::Dirty(page) => {
-            word(rt, " dirty")?;
+            word(rt, b" dirty")?;
             number(rt, page as u64)
         }
     }
@@ -85,7 +85,7 @@ pub fn flush(rt: &impl Print, answer: Flushing) -> io::Result<()> {
     match answer {
         Flushing::Refused(why) => also_refused(rt, why),
         Flushing::Wrote(pages) => {
-            word(rt, " wrote")?;
+            word(rt, b" wrote")?;
             number(rt, pages as u64)
         }
     }
@@ -95,17 +95,17 @@ pub fn flush(rt: &impl Print, answer: Flushing) -> io::Result<()> {
 pub fn drop(rt: &impl Print, answer: Dropping) -> io::Result<()> {
     match answer {
         Dropping::Refused(why) => also_refused(rt, why),
-        Dropping::Dropped => word(rt, " dropped"),
+        Dropping::Dropped => word(rt, b" dropped"),
     }
 }
 
 // What was counted, to the end of the line.
 pub fn counts(rt: &impl Print, reads: u64, writes: u64, served: u64) -> io::Result<()> {
-    word(rt, "physical reads")?;
+    word(rt, b"physical reads")?;
     number(rt, reads)?;
-    word(rt, " writes")?;
+    word(rt, b" writes")?;
     number(rt, writes)?;
-    word(rt, " served")?;
+    word(rt, b" served")?;
     number(rt, served)?;
     end(rt)
 }

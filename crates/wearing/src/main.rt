@@ -61,7 +61,7 @@ fn report(drive: Drive, answer: Answer, reads: &mut [u16], writes: &mut [u16]) -
 
 // ---- calls, told in a line
 
-fn tell_call(rt: &impl Print, what: &str, page: usize) -> io::Result<()> {
+fn tell_call(rt: &impl Print, what: &[u8], page: usize) -> io::Result<()> {
     word(rt, what)?;
     number(rt, page as u64)
 }
@@ -80,7 +80,7 @@ fn read(
     let served = casa::read_page_measured(play.pool, before.kept, page, frames, store, &mut out);
     let answer = served.answer;
     let pool = served.pool;
-    tell_call(rt, "read", page)?;
+    tell_call(rt, b"read", page)?;
     tell::answer(rt, answer)?;
     let drive = report(before, answer, reads, writes);
     Ok(Play { pool, drive })
@@ -100,7 +100,7 @@ fn write(
     let served = casa::write_page_measured(play.pool, before.kept, page, 0, &bytes, frames, store);
     let answer = served.answer;
     let pool = served.pool;
-    tell_call(rt, "write", page)?;
+    tell_call(rt, b"write", page)?;
     tell::answer(rt, answer)?;
     let drive = report(before, answer, reads, writes);
     Ok(Play { pool, drive })
@@ -119,13 +119,13 @@ fn drop(
     let dropped = casa::drop_page(play.pool, page, frames, store);
     let answer = dropped.answer;
     let pool = dropped.pool;
-    tell_call(rt, "drop", page)?;
+    tell_call(rt, b"drop", page)?;
     tell::drop(rt, answer)?;
     let drive = report_write(play.drive, reads, writes);
     Ok(Play { pool, drive })
 }
 
-fn tell_window(rt: &impl Print, what: &str, window: Window) -> io::Result<()> {
+fn tell_window(rt: &impl Print, what: &[u8], window: Window) -> io::Result<()> {
     word(rt, what)?;
     number(rt, window.fill as u64)?;
     number(rt, window.sum)
@@ -136,19 +136,19 @@ fn tell_state(rt: &impl Print, play: Play) -> io::Result<()> {
     let pool = play.pool;
     let drive = play.drive;
     let kept = drive.kept;
-    word(rt, " target")?;
+    word(rt, b" target")?;
     number(rt, pool.target)?;
-    tell_window(rt, " reads", kept.reads)?;
-    tell_window(rt, " writes", kept.writes)?;
+    tell_window(rt, b" reads", kept.reads)?;
+    tell_window(rt, b" writes", kept.writes)?;
     tell::end(rt)
 }
 
 fn tell_end(rt: &impl Print, pool: Pool) -> io::Result<()> {
-    word(rt, "physical reads")?;
+    word(rt, b"physical reads")?;
     number(rt, pool.reads.0)?;
-    word(rt, " writes")?;
+    word(rt, b" writes")?;
     number(rt, pool.writes.0)?;
-    word(rt, " total")?;
+    word(rt, b" total")?;
     tell::total(rt, casa::total(pool))?;
     tell::end(rt)
 }
@@ -196,7 +196,7 @@ fn serve_all(
 
 // Three frames on the usual drive, and windows of two times. Pages 0 and 1 are dirty, page 2 is clean. Page 7 is in no frame: a drop of it is a write, and
 // leaves the lists. After the second one both windows are full.
-fn play_on(rt: &impl Print, what: &str, slower: u16) -> io::Result<()> {
+fn play_on(rt: &impl Print, what: &[u8], slower: u16) -> io::Result<()> {
     let mut frames = [0u8; 48];
     let mut store = [0u8; 128];
     let mut reads = [0u16; 2];
@@ -225,6 +225,6 @@ fn play_on(rt: &impl Print, what: &str, slower: u16) -> io::Result<()> {
 }
 
 fn main(rt: HostRuntime) -> io::Result<()> {
-    play_on(&rt, "a young drive", 0)?;
-    play_on(&rt, "a drive that wears", 800)
+    play_on(&rt, b"a young drive", 0)?;
+    play_on(&rt, b"a drive that wears", 800)
 }
