@@ -1,6 +1,6 @@
-// Loads for counting instructions of the measured calls and of the reports, called from C. They stand in a library of their own, apart from those of `bench`: in
-// one that has both forms of a read, neither is compiled into the loop. Numbers and requests come from outside, so that the compiler can make no use of them,
-// and every call of a pool beside which times are kept is linked.
+// Loads for counting instructions of the measured calls and of the reports, called from C. They stand in a library of their own, apart from those of `bench`:
+// in one that has both forms of a read, neither is compiled into the loop. Numbers and requests come from outside, so that the compiler can make no use of
+// them, and every call of a pool beside which times are kept is linked.
 #![tactic(auto)]
 
 use model::{Costing, Kept, Window};

@@ -122,8 +122,8 @@ pub fn one_more(counts: [u64; KINDS], kind: usize) -> [u64; KINDS] {
 
 // ---- one call
 
-// A call by the letter of a trace, or T for the total, with how many bytes of each memory are lent. A write's bytes grow from `value`. A read or a write that is
-// `measured` takes the kept numbers; no other call looks at them.
+// A call by the letter of a trace, or T for the total, with how many bytes of each memory are lent. A write's bytes grow from `value`. A read or a write that
+// is `measured` takes the kept numbers; no other call looks at them.
 #[derive(Clone, Copy)]
 pub struct Call {
     pub letter: u8,

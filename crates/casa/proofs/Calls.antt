@@ -1,4 +1,5 @@
--- A call is refused or served as the definitions say, by the verdict on it: refused, it leaves everything; else it may be served. And the total. Assumes nothing.
+-- A call is refused or served as the definitions say, by the verdict on it: refused, it leaves everything; else it may be served. And the total. Assumes
+-- nothing.
 use mathlib.Core.Path.{◌≡◌, sym, ap, ◌∙◌, subst}
 use mathlib.Core.Bool.{Bool, true, false}
 use mathlib.Core.List.{List, []}

@@ -19,7 +19,8 @@ pub open-refused : (n : Numbers) (p : Pool) → in_limits n ≡ false → p ≡ 
 unfolding open_by
 open-refused n p e z = rw (e, z)
 
-pub open-fine : (n : Numbers) (p : Pool) → in_limits n ≡ true → p ≡ pool_of (opened n) → ◌≡◌ {A = OpenLeft} (record { pool = p; said = said_opened }) (open_by n)
+pub open-fine : (n : Numbers) (p : Pool) → in_limits n ≡ true → p ≡ pool_of (opened n) → ◌≡◌ {A = OpenLeft} (record { pool = p; said = said_opened })
+    (open_by n)
 unfolding open_by
 open-fine n p e z = rw (e, z)
 

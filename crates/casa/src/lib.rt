@@ -205,8 +205,8 @@ pub fn write_page_measured(
 
 // ---- flush
 
-// Writes every changed page to the store. Refused: 2, 3, 6. It names no page, no bytes and no kept numbers: it is refused as a fitting request for page 0 is, which every
-// sound pool has.
+// Writes every changed page to the store. Refused: 2, 3, 6. It names no page, no bytes and no kept numbers: it is refused as a fitting request for page 0 is,
+// which every sound pool has.
 pub fn flush(pool: Pool, frames: &[u8], store: &mut [u8]) -> Flushed
     ensures { flushed_left result frames.now store.new ≡ after pool frames.now store.old run.flush }
 {

@@ -1,13 +1,14 @@
 -- The three demands, as theorems about the public calls; each proof is a citation. What a call leaves of a pool and of the bytes lent to it, `left pools`, is
 -- what its promise states, whole (`casa`'s specs/Calls.antt, `model`'s specs/Run.antt); the other words stand in specs/World.antt here and in `model`'s specs.
 --
--- Where the hypotheses come from: `open_verdict n ≡ Fine` says that the open was accepted; `verdict_of .. ≡ Fine` that this very call is served; that the page is in
--- no frame says that the call is a fault; that no frame is empty and that the clean list is further from the exact target are the third demand's own
+-- Where the hypotheses come from: `open_verdict n ≡ Fine` says that the open was accepted; `verdict_of .. ≡ Fine` that this very call is served; that the
+-- page is in no frame says that the call is a fault; that no frame is empty and that the clean list is further from the exact target are the third demand's own
 -- "whenever"; that a frame has the page is a drop's "if it was resident". Nothing is asked of a pool that was opened and used through its calls: `used-sound`
 -- gives it.
 --
--- Of times: `kept_fits k ≡ true` and `both_full k ≡ false` say that kept numbers are not refused, and not of two full windows; `start_verdict .. ≡ Fine` that the
--- windows were started; that times are at most `most_time` is that they have 16 bits; `AsOpened` that no call of a recorded run was served with two full windows.
+-- Of times: `kept_fits k ≡ true` and `both_full k ≡ false` say that kept numbers are not refused, and not of two full windows; `start_verdict .. ≡ Fine` that
+-- the windows were started; that times are at most `most_time` is that they have 16 bits; `AsOpened` that no call of a recorded run was served with two full
+-- windows.
 --
 -- Then the writer of trace files. `begin_verdict .. ≡ Fine` says that the trace was begun; `AllBelow 256` that a file is bytes; `room_for .. ≡ true` that
 -- there was room for all records; the lengths that memory lent to a run of the trace is of the right sizes. Assumes nothing.
@@ -49,15 +50,18 @@ use Rattle.trace.specs.declared.Record.{Record}
 use Rattle.trace.specs.declared.Next.TheVariants.{End}
 use Rattle.trace.proofs.Reading.{refused-none, record_at-in, refused-yields-none}
 use Rattle.recorder.specs.Words.{refusal_says as recorder_says}
-use Rattle.recorder.specs.Calls.{zero_recorder, room_for, begin_rows, add_rows, close_rows, begin_verdict, add_verdict, close_verdict, begin_after, add_after, close_after}
+use Rattle.recorder.specs.Calls.{zero_recorder, room_for, begin_rows, add_rows, close_rows, begin_verdict, add_verdict, close_verdict, begin_after, add_after}
+use Rattle.recorder.specs.Calls.{close_after}
 use Rattle.recorder.specs.Runs.{Tape, tape_of, after_adds, after_close, kept, Reads, value_of, records_of, shown, after_recording, calls_of, AsOpened}
 use Rattle.recorder.specs.declared.Recorder.{Recorder}
-use Rattle.times.specs.Reports.{Windows, windows, Report, time_in, Reported, windows_right, report_rows, report_verdict, report_after, start_rows, start_verdict, zero_kept, start_after}
+use Rattle.times.specs.Reports.{Windows, windows, Report, time_in, Reported, windows_right, report_rows, report_verdict, report_after, start_rows}
+use Rattle.times.specs.Reports.{start_verdict, zero_kept, start_after}
 use Rattle.times.specs.Reports.{after_reports, read_times, write_times, HasLast}
 use Rattle.times.proofs.Right.{report-right}
 use Rattle.times.proofs.Last.{reports-last, used-verdict, used-fits}
 use Rattle.times.proofs.Reporting.{report-given, given-report, report-leaves, start-given, given-start, start-leaves, zero-unfit, zero-refused}
-use Rattle.claims.specs.World.{Exactly, Broken, Says, TraceSays, opened, ClosesAs, Followed, adjusting, LatestFirst, Asks, Took, last_said, header_rows, check_rows}
+use Rattle.claims.specs.World.{Exactly, Broken, Says, TraceSays, opened, ClosesAs, Followed, adjusting, LatestFirst, Asks, Took, last_said, header_rows}
+use Rattle.claims.specs.World.{check_rows}
 use Rattle.claims.proofs.Opening as opening
 use Rattle.claims.proofs.Traces as traces
 use Rattle.claims.proofs.Refused as refusing
@@ -130,10 +134,11 @@ module _ (n : Numbers) (accepted : open_verdict n ≡ Fine) (frames store : List
   pub used-sound : Sound used.state
   used-sound = run-sound cs (opened n frames store) (open-sound n accepted)
 
-  -- ---- demand 2: a call that is served leaves the state, the answer and the bytes of Algorithm 1 on the state before it, with the costs in force, whatever kept
-  -- numbers it takes
+  -- ---- demand 2: a call that is served leaves the state, the answer and the bytes of Algorithm 1 on the state before it, with the costs in force,
+  -- whatever kept numbers it takes
 
-  pub demand-2-follows : (c : Call) → verdict_of pools used c ≡ Fine → Followed (costs_in pools used (times_of c)) (state_of used.state) used.memory c (left pools used c)
+  pub demand-2-follows : (c : Call) → verdict_of pools used c ≡ Fine → Followed (costs_in pools used (times_of c)) (state_of used.state) used.memory c
+      (left pools used c)
   demand-2-follows = call-follows used used-sound
 
   -- and a read that is served returns the page as the store first had it with all served writes laid over it in order, a drop being a write of P zeros
@@ -143,7 +148,8 @@ module _ (n : Numbers) (accepted : open_verdict n ≡ Fine) (frames store : List
 
   -- so a page that is read next behind its drop is zeros
   pub demand-2-cut : (t : Times) (page : ℕ) (out : List ℕ) → verdict_of pools used (drop page) ≡ Fine
-      → verdict_of pools (after pools used (drop page)) (read t page out) ≡ Fine → (left pools (after pools used (drop page)) (read t page out)).out ≡ replicate (meant n).P 0
+      → verdict_of pools (after pools used (drop page)) (read t page out) ≡ Fine → (left pools (after pools used (drop page)) (read t page out)).out ≡
+      replicate (meant n).P 0
   demand-2-cut = run-cut n accepted frames store cs
 
   -- "its frame leaves C or D and becomes the tail of E"
@@ -276,7 +282,11 @@ module _ (x : Recorder) (buffer : List ℕ) (y : Refusal) where
   pub demand-1-close : Exactly ((close_after x buffer).said ≡ recorder_says y) (GivenBy y (close_rows x (length buffer)))
   demand-1-close = recording.close-exactly x buffer y
 
-  pub demand-1-close-leaves : (close_after x buffer).said ≡ recorder_says y → close_after x buffer ≡ record { recorder = x; said = recorder_says y; buffer = buffer }
+  pub demand-1-close-leaves : (close_after x buffer).said ≡ recorder_says y → close_after x buffer ≡ record {
+    recorder = x;
+    said = recorder_says y;
+    buffer = buffer;
+  }
   demand-1-close-leaves = recording.close-leaves x buffer y
 
 -- and that of all zeros is refused 1
@@ -333,9 +343,10 @@ module _ (n : Numbers) (accepted : open_verdict n ≡ Fine) (frames store : List
       × Reads s notes recorded-in (meant n)
   recorded-run = recording.run-closed n accepted frames store cs
 
-  -- and where no call was given kept numbers of two full windows ("CR 2's rerun holds only without reports"), a run of these on any frames and store of the right
-  -- sizes, from an open with those numbers, shows at each record what the call showed: what it says, and the pool that it leaves; none of them is refused
-  pub replayed : AsOpened cs → (frames' store' out : List ℕ) → length frames' ≡ (meant n).b * (meant n).P → length store' ≡ (meant n).N * (meant n).P → length out ≡ (meant n).P
+  -- and where no call was given kept numbers of two full windows ("CR 2's rerun holds only without reports"), a run of these on any frames and store of the
+  -- right sizes, from an open with those numbers, shows at each record what the call showed: what it says, and the pool that it leaves; none of them is refused
+  pub replayed : AsOpened cs → (frames' store' out : List ℕ) → length frames' ≡ (meant n).b * (meant n).P → length store' ≡ (meant n).N * (meant n).P
+      → length out ≡ (meant n).P
       → (open_verdict (meant n) ≡ Fine)
       × (gathered pools (shown pools) (opened n frames store) cs ≡ gathered pools (shown pools) (opened (meant n) frames' store') (calls_of out recorded-in))
       × (length (gathered pools (shown pools) (opened (meant n) frames' store') (calls_of out recorded-in)) ≡ length recorded-in)
@@ -360,7 +371,8 @@ module _ (n : Numbers) (accepted : open_verdict n ≡ Fine) (frames store : List
   replayed-front = recording.run-again-front n accepted frames store cs
 
   -- "For a write the record's value is byte 0 of the page after the call", as all served writes left it
-  pub recorded-byte : (t : Times) (page start : ℕ) (bytes : List ℕ) → verdict_of pools (after_all pools (opened n frames store) cs) (write t page start bytes) ≡ Fine
+  pub recorded-byte : (t : Times) (page start : ℕ) (bytes : List ℕ) → verdict_of pools (after_all pools (opened n frames store) cs)
+      (write t page start bytes) ≡ Fine
       → value_of pools (after_all pools (opened n frames store) cs) t page start bytes
       ≡ get_or (laid page start bytes (history pools (opened n frames store) cs (λ p. page_of (meant n).P p store)) page) 0 0
   recorded-byte = recording.value-last n accepted frames store cs

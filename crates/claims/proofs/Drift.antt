@@ -49,7 +49,8 @@ module _ (x : World Pool) (s : Sound x.state) where
   made-by c = brought_by pools (verdict_of pools x c) (adjusting x c)
 
   -- a refused call makes no adjustment; a served one leaves state t, and makes those that lead to it
-  moved-by : (c : Call) (t : State) → (verdict_of pools x c ≡ Fine → state_of (left pools x c).state ≡ t) → (verdict_of pools x c ≡ Fine → Adjusted before t (adjusting x c))
+  moved-by : (c : Call) (t : State) → (verdict_of pools x c ≡ Fine → state_of (left pools x c).state ≡ t)
+      → (verdict_of pools x c ≡ Fine → Adjusted before t (adjusting x c))
       → Adjusted before (state_of (after pools x c).state) (made-by c)
   moved-by c t is a =
       call-cases pools x c (λ l. (verdict_of pools x c ≡ Fine → state_of l.state ≡ t) → Adjusted before (state_of l.state) (made-by c))

@@ -1,4 +1,5 @@
--- The demands: Claims states them, Settled cites what settles each call; Refused, Opening, Traces, Runs, Recorded, Drift, Drops and References prove them. Assumes nothing.
+-- The demands: Claims states them, Settled cites what settles each call; Refused, Opening, Traces, Runs, Recorded, Drift, Drops and References prove them.
+-- Assumes nothing.
 pub mod Refused
 pub mod Opening
 pub mod Traces

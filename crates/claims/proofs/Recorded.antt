@@ -188,7 +188,8 @@ module _ (n : Numbers) (accepted : open_verdict n ≡ Fine) where
     abbrev records : List Record
     records = gathered pools (records_of pools) (opened n frames store) cs
 
-    module _ (unreported : AsOpened cs) (frames' store' out : List ℕ) (framed : length frames' ≡ (meant n).b * (meant n).P) (stored : length store' ≡ (meant n).N * (meant n).P)
+    module _ (unreported : AsOpened cs) (frames' store' out : List ℕ) (framed : length frames' ≡ (meant n).b * (meant n).P)
+        (stored : length store' ≡ (meant n).N * (meant n).P)
         (fit : length out ≡ (meant n).P) where
       abbrev fresh : World Pool
       fresh = opened (meant n) frames' store'

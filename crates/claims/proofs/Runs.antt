@@ -121,7 +121,8 @@ module _ (n : Numbers) (accepted : open_verdict n ≡ Fine) (frames store : List
 
   -- a read that is served hands out the page as its history says
   pub run-read : (cs : List Call) (t : Times) (q : ℕ) (out : List ℕ) → verdict_of pools (after_all pools (opened n frames store) cs) (read t q out) ≡ Fine
-      → (left pools (after_all pools (opened n frames store) cs) (read t q out)).out ≡ history pools (opened n frames store) cs (λ p. page_of (meant n).P p store) q
+      → (left pools (after_all pools (opened n frames store) cs) (read t q out)).out ≡ history pools (opened n frames store) cs
+      (λ p. page_of (meant n).P p store) q
   run-read cs t q out e =
       last-written pools pools-lawful (after_all pools (opened n frames store) cs) _ (run-right-by (read t q out) (read-sized t q out) cs e) t q out e
 

@@ -4,7 +4,8 @@
 use Rattle.std.specs.Prelude.{◌≡◌, Bool, not, List, [], ◌∷◌, ◌++◌, ℕ, ◌-◌, ◌≤◌, ◌<◌, eqb, ltb, length, get_or, drop}
 use Rattle.pages.specs.Pages.{page_of}
 use Rattle.model.specs.Numbers.{Numbers}
-use Rattle.model.specs.Words.{Said, flushed as said_flushed, fault as said_fault, dropped as said_dropped, total as said_total, number_of, named_by, refusal_says, answer_says, fault_says}
+use Rattle.model.specs.Words.{Said, flushed as said_flushed, fault as said_fault, dropped as said_dropped, total as said_total, number_of, named_by}
+use Rattle.model.specs.Words.{refusal_says, answer_says, fault_says}
 use Rattle.model.specs.Target.{Costs, Adjustment}
 use Rattle.model.specs.Times.{Times}
 use Rattle.model.specs.Counts.{total_cost}

@@ -15,7 +15,8 @@ use Rattle.model.specs.declared.Place.{Place}
 use Rattle.model.specs.declared.Place.TheVariants.{Absent}
 use Rattle.pool.specs.Pool.{pool_of, state_of, Sound}
 use Rattle.pool.specs.declared.Pool.{Pool}
-use Rattle.pool.proofs.Form.{refilled, refilled-is, empty-in-places, clean-in-places, dirty-in-places, lengths-frames, page-pad, page_set, reference-pad, reference-set}
+use Rattle.pool.proofs.Form.{refilled, refilled-is, empty-in-places, clean-in-places, dirty-in-places, lengths-frames, page-pad, page_set, reference-pad}
+use Rattle.pool.proofs.Form.{reference-set}
 
 module _ (p : Pool) (s : Sound p) where
   -- a frame in C or D leaves room in E

@@ -1,5 +1,5 @@
--- A request moves the target by the adjustments that it makes, each with the sizes that the lists really have then, and a flush and a drop make none. So after a
--- run the target is the start with the run's adjustments made in order, and the drift theorem speaks of it.
+-- A request moves the target by the adjustments that it makes, each with the sizes that the lists really have then, and a flush and a drop make none. So
+-- after a run the target is the start with the run's adjustments made in order, and the drift theorem speaks of it.
 -- Assumes nothing.
 use mathlib.Core.Path.{◌≡◌, refl, sym, ◌∙◌}
 use mathlib.Core.List.{List, [], ◌∷◌, ◌++◌}

@@ -161,7 +161,8 @@ module _ (π : Policy) (ok : Lawful π) where
         call-cases π x c (λ l. Right (record { state = l.state; memory = l.memory }) (told_by π (verdict_of π x c) x c h))
         (λ y e. rw e r) (λ e. rw e (right-served c e))
       where
-        right-served : (d : Call) → verdict_of π x d ≡ Fine → Right (record { state = (served π x d).state; memory = (served π x d).memory }) (told_by π Fine x d h)
+        right-served : (d : Call) → verdict_of π x d ≡ Fine → Right (record { state = (served π x d).state; memory = (served π x d).memory })
+            (told_by π Fine x d h)
         right-served (read t q out) e = let a = read-clear π x t q out e in read-right t q a.2 a.1.more
         right-served (write t q start bytes) e =
             let a = write-clear π x t q start bytes e in

@@ -1,4 +1,5 @@
--- What follows from the definitions alone, without any code: LastWritten, Exactly, Times, Frames and Framed for any policy, the others of CASA. Assumes nothing.
+-- What follows from the definitions alone, without any code: LastWritten, Exactly, Times, Frames and Framed for any policy, the others of CASA. Assumes
+-- nothing.
 pub mod Words
 pub mod Refusals
 pub mod Limits

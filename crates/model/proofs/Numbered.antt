@@ -1,7 +1,8 @@
 -- Reference numbers stay right: the frame that a call references has the largest, and goes to a front; a merge keeps them in order; a frame that becomes empty
 -- has none.
 --     clean-latest, dirty-latest    a frame of neither list goes to the front of C or D
---     numbered-latest, numbered-flushed, numbered-vacated, numbered-later    the numbers after a request, a flush, a drop that empties a frame, and one that does not
+--     numbered-latest, numbered-flushed, numbered-vacated, numbered-later    the numbers after a request, a flush, a drop that empties a frame,
+--         and one that does not
 --     opened-numbered    an opened state has none
 -- Assumes nothing.
 use mathlib.Core.Path.{◌≡◌, sym, ◌∙◌, subst}

@@ -122,7 +122,8 @@ module _ (s : State) (w : Whole s) where
             served = refl;
             tracked = λ last h g c.
                 let m : f ≢ g = λ e. let k : 1 ≤ count f C + count f D = rw e c in omega (arith, left f, bit-same f, standing-once s w.good f) in
-                get_or-set_other s.reference f g 0 0 (λ e. m (sym e)) ∙ h g (omega (arith, left g)) ∙ ap last (sym (get_or-set_other s.page f g 0 0 (λ e. m (sym e))));
+                get_or-set_other s.reference f g 0 0 (λ e. m (sym e)) ∙ h g (omega (arith, left g))
+                ∙ ap last (sym (get_or-set_other s.page f g 0 0 (λ e. m (sym e))));
           }
 
       go : (x : Place) → PlaceRight s q x → Tracks s (dropped_at s x) (none ∷ [])

@@ -9,7 +9,8 @@ use borrow.Author.Tests.{leb-true, leb-false, lt-leb, ltb-true}
 use Rattle.pages.proofs.Memory.{sizes_match-sound, sizes_match-complete}
 use Rattle.model.specs.Numbers.{Numbers, most_served}
 use Rattle.model.specs.Times.{Times, times_fit}
-use Rattle.model.specs.Refusals.{Row, verdict_by, first, broken_pool, request_rows, flush_rows, drop_rows, request_verdict, flush_verdict, drop_verdict, output_fits, stretch_fits, Ready}
+use Rattle.model.specs.Refusals.{Row, verdict_by, first, broken_pool, request_rows, flush_rows, drop_rows, request_verdict, flush_verdict, drop_verdict}
+use Rattle.model.specs.Refusals.{output_fits, stretch_fits, Ready}
 use Rattle.model.specs.Policy.{Policy}
 use Rattle.model.specs.Run.{Call, read, write, flush, drop, World, Left, verdict_of, served, left_by, left}
 use Rattle.model.specs.declared.Refusal.{Refusal}

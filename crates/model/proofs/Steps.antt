@@ -303,7 +303,8 @@ module _ (s : State) (w : Whole s) (q : ℕ) (more : s.counts.served < most_serv
 
   -- frame f leaves its list, which makes the lists C and D
   vacated-stepped : (C D : List ℕ) (f : ℕ) → ((h : ℕ) → bit (eqb f h) + (count h C + count h D) ≡ resident s.lists h) → page_in s f ≡ q
-      → ((h : ℕ) → f ≢ h → count h D ≡ count h s.lists.D) → Ordered s.reference s.counts.served C D → CasaDropped (counted 0 1 (vacated f (with_lists s.lists.E C D s)))
+      → ((h : ℕ) → f ≢ h → count h D ≡ count h s.lists.D) → Ordered s.reference s.counts.served C D
+      → CasaDropped (counted 0 1 (vacated f (with_lists s.lists.E C D s)))
   vacated-stepped C D f left has dirty-off ordered =
       let here : 1 ≤ resident s.lists f = omega (arith, left f, bit-same f) in
       let out : count f C + count f D ≡ 0 = omega (arith, left f, bit-same f, standing-once s w.good f) in

@@ -13,7 +13,8 @@ use native.Mathlib.Omega.{arith}
 use borrow.Author.Tests.{leb-true, le-leb, eqb-true, ne_eqb, not-true}
 use Rattle.model.specs.Numbers.{Numbers, Limits}
 use Rattle.model.specs.Target.{Costs, costs, costs_of, most_cost}
-use Rattle.model.specs.Times.{Times, unmeasured, measured, most_times, most_time, length_fits, window_fits, kept_fits, times_fit, both_full, measured_costs, in_force, as_opened, fresh_kept}
+use Rattle.model.specs.Times.{Times, unmeasured, measured, most_times, most_time, length_fits, window_fits, kept_fits, times_fit, both_full, measured_costs}
+use Rattle.model.specs.Times.{in_force, as_opened, fresh_kept}
 use Rattle.model.specs.Policy.{Policy}
 use Rattle.model.specs.Run.{Call, read, write, output_of, World, verdict_of, outcome_of, read_by, written_by, served, left_by, left}
 use Rattle.model.specs.declared.Op.{Op}

@@ -7,7 +7,8 @@
 --     merged-same    other numbers that are the same
 --     falls-merged, merged-falls    numbers fall down a merge exactly when they fall down both lists and none stands in both
 --     merging-first, merging-second, merging-end    a merge in its places
---     ordered-same, ordered-swap, ordered-later, ordered-once, ordered-remove_at, ordered-latest, ordered-merged, merged-ordered    two lists by falling numbers
+--     ordered-same, ordered-swap, ordered-later, ordered-once    two lists by falling numbers
+--     ordered-remove_at, ordered-latest, ordered-merged, merged-ordered    and what a move or a merge makes of them
 -- Assumes nothing.
 use mathlib.Core.Path.{◌≡◌, refl, sym, ap, ◌∙◌}
 use mathlib.Core.Logic.{◌≢◌, dite}
@@ -143,12 +144,14 @@ module _ (reference : List ℕ) where
     pub rest-takes-first : i < m → j < n → number (get_or second j 0) < number (get_or first i 0)
         → rest ≡ get_or first i 0 ∷ merged reference (drop (i + 1) (take m first)) (drop j (take n second))
     rest-takes-first h k l =
-        takes-first (drop j (take n second)) (drop-take-next first m i lf h) (takes-later h k ∙ lt-ltb (number (get_or second j 0)) (number (get_or first i 0)) l)
+        takes-first (drop j (take n second)) (drop-take-next first m i lf h)
+        (takes-later h k ∙ lt-ltb (number (get_or second j 0)) (number (get_or first i 0)) l)
 
     pub rest-takes-second : i < m → j < n → number (get_or first i 0) ≤ number (get_or second j 0)
         → rest ≡ get_or second j 0 ∷ merged reference (drop i (take m first)) (drop (j + 1) (take n second))
     rest-takes-second h k l =
-        takes-second (drop i (take m first)) (drop-take-next second n j ls k) (takes-later h k ∙ le-ltb (number (get_or second j 0)) (number (get_or first i 0)) l)
+        takes-second (drop i (take m first)) (drop-take-next second n j ls k)
+        (takes-later h k ∙ le-ltb (number (get_or second j 0)) (number (get_or first i 0)) l)
 
   -- ---- what a merge keeps
 

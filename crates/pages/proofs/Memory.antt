@@ -33,7 +33,11 @@ written_back-more P n i page frames list store h k l =
     let e : suc (i - 1) ≡ i = omega arith in
     let b : i - 1 < length (take n list) = simp length-take (omega arith) in
     let m : i - 1 < n = omega arith in
-    let d : get_or list (i - 1) 0 ∷ drop i (take n list) ≡ drop (i - 1) (take n list) = rw (drop-cons (take n list) (i - 1) 0, get_or-take n list (i - 1) 0, e) in
+    let d : get_or list (i - 1) 0 ∷ drop i (take n list) ≡ drop (i - 1) (take n list) = rw (
+      drop-cons (take n list) (i - 1) 0,
+      get_or-take n list (i - 1) 0,
+      e,
+    ) in
     ap (λ (fs : List ℕ). written_back P page frames fs store) d
 
 -- ---- sizes

@@ -18,7 +18,8 @@ use Rattle.order.specs.Merge.{Falls, Ordered}
 use Rattle.order.proofs.Count.{count-append}
 use Rattle.checks.specs.Tests.{Decides, every, is_zero, FramesRight}
 use Rattle.checks.proofs.Counting.{count-three}
-use Rattle.checks.proofs.Exact.{Exact, exact-iff, exact-self, exact-and, exact-not, exact-eqb, exact-leb, exact-ltb, exact-where, exact-every_below, exact-every}
+use Rattle.checks.proofs.Exact.{Exact, exact-iff, exact-self, exact-and, exact-not, exact-eqb, exact-leb, exact-ltb, exact-where, exact-every_below}
+use Rattle.checks.proofs.Exact.{exact-every}
 use Rattle.checks.proofs.Frames.{frames-below}
 use Rattle.order.proofs.Places.{in-places-length}
 use Rattle.checks.proofs.Zeros.{zeros-in-places, in-places-zeros}
@@ -29,7 +30,8 @@ use Rattle.model.specs.Frames.{Blank}
 use Rattle.model.specs.Good.{Numbered, Good}
 use Rattle.model.proofs.Limits.{in_limits-limits, limits-in_limits}
 use Rattle.model.proofs.Good.{standing-below}
-use Rattle.pool.specs.Test.{CountsRight, frames_test, apart_test, falls_test, ordered_test, numbered_test, counts_test, good_test, blank_test, in_places_test, sound_test}
+use Rattle.pool.specs.Test.{CountsRight, frames_test, apart_test, falls_test, ordered_test, numbered_test, counts_test, good_test, blank_test, in_places_test}
+use Rattle.pool.specs.Test.{sound_test}
 use Rattle.pool.specs.Pool.{state_of, Sound}
 use Rattle.pool.specs.declared.Pool.{Pool}
 use Rattle.pool.proofs.Parts.{lists-whole, sound-lists}

@@ -1,5 +1,5 @@
--- Soundness as a test that computes, line by line beside `Good`, `Blank` and `Sound`; `sound_test-decides` says that it is true of the sound pools and no other.
--- Assumes nothing.
+-- Soundness as a test that computes, line by line beside `Good`, `Blank` and `Sound`; `sound_test-decides` says that it is true of the sound pools and no
+-- other. Assumes nothing.
 use Rattle.std.specs.Prelude.{◌≡◌, Bool, true, not, ◌&&◌, ◌||◌, List, [], ◌∷◌, ◌++◌, ℕ, ◌*◌, ◌≤◌, eqb, leb, ltb, length, drop}
 use Rattle.order.specs.Places.{places}
 use Rattle.order.specs.Count.{count}

@@ -51,7 +51,8 @@ low-exact b list n some l z =
     front = exact-every (λ f. exact-leb f (b - 1)) (take n list)
 
     behind : every (is_at_most (b - 1)) (drop n list) ≡ true
-    behind = every-of (is_at_most (b - 1)) (drop n list) (λ i h. le-leb _ (b - 1) (omega (arith, eqb-true (get_or (drop n list) i 0) 0 (every-means is_zero (drop n list) z i h))))
+    behind = every-of (is_at_most (b - 1)) (drop n list)
+        (λ i h. le-leb _ (b - 1) (omega (arith, eqb-true (get_or (drop n list) i 0) 0 (every-means is_zero (drop n list) z i h))))
 
 -- right frames are below b
 module _ {b : ℕ} {E C D : List ℕ} (r : FramesRight b E C D) where
@@ -72,7 +73,8 @@ blank-exact reference E = exact-every (λ f. exact-eqb (get_or reference f 0) 0)
 -- ---- frames and numbers
 
 module _ (b served : ℕ) (C D reference : List ℕ) where
-  full-exact : length C + length D ≡ b → Below b C → Below b D → Exact (falls_from reference (served + 1) (merged reference C D)) (StandingRight b served [] C D reference)
+  full-exact : length C + length D ≡ b → Below b C → Below b D → Exact (falls_from reference (served + 1) (merged reference C D))
+      (StandingRight b served [] C D reference)
   full-exact sum hc hd =
       exact-iff
       (λ o.

@@ -1,7 +1,7 @@
--- A recorded run runs again, whatever the policy. What a call says and the state that it leaves hang on the state alone, if it has the opened costs: a policy never
--- sees the bytes. Whether it is served hangs on the state, the sizes of the lent memory, the page and the lengths. So the record of a call that was served
--- with those costs stands for a call that is served over any memory of the right sizes, if the state is the same; it says and leaves the same. The rest is
--- induction on the calls, along two worlds of the same state: the first serves the calls, the second their records.
+-- A recorded run runs again, whatever the policy. What a call says and the state that it leaves hang on the state alone, if it has the opened costs: a policy
+-- never sees the bytes. Whether it is served hangs on the state, the sizes of the lent memory, the page and the lengths. So the record of a call that was
+-- served with those costs stands for a call that is served over any memory of the right sizes, if the state is the same; it says and leaves the same. The
+-- rest is induction on the calls, along two worlds of the same state: the first serves the calls, the second their records.
 --     replay, replay-served     the records of a run, run again, show what the run showed, and none of them is refused
 --     replay-front              the records of a front of a run, run again, show the front of what it showed: none is refused, so each shows one thing
 --     records-in                every record of a run is one that a trace over the pool's pages may have
@@ -183,7 +183,8 @@ module _ (π : Policy) (ok : Lawful π) where
           (ap₂ ◌∷◌ one (rest (world_of π (served π x c)) (after π y d) state (told_by π (verdict_of π y d) y d h) (call-right π ok y h r d) out fits))
 
       -- a request with the opened costs shows what the state alone makes of it
-      requested-again : (op : Op) (t : Times) (q : ℕ) → times_fit t ≡ true → as_opened t ≡ true → requested_at π op q (costs_in π x t) x.state ≡ requested π op q y.state
+      requested-again : (op : Op) (t : Times) (q : ℕ) → times_fit t ≡ true → as_opened t ≡ true
+          → requested_at π op q (costs_in π x t) x.state ≡ requested π op q y.state
       requested-again op t q f o =
           ap (λ (k : Costs). requested_at π op q k x.state) (opened-in-force t (costs_of (π.numbers x.state)) f o) ∙ ap (requested π op q) same
 
@@ -201,7 +202,8 @@ module _ (π : Policy) (ok : Lawful π) where
       served-again (drop q) o e = goes-on (drop q) (drop q) e (drop-again q out e) (ap (dropped_in π q) same)
       served-again total o e = rest x y same h r out fit
 
-      call-again : (c : Call) → as_opened (times_of c) ≡ true → gathered π (shown π) x (c ∷ cs) ≡ gathered π (shown π) y (calls_of out (gathered π (records_of π) x (c ∷ cs)))
+      call-again : (c : Call) → as_opened (times_of c) ≡ true
+          → gathered π (shown π) x (c ∷ cs) ≡ gathered π (shown π) y (calls_of out (gathered π (records_of π) x (c ∷ cs)))
       call-again c o =
           call-cases π x c
           (λ l. brought_by π (verdict_of π x c) (shown π x c) ++ gathered π (shown π) (world_of π l) cs

@@ -221,7 +221,8 @@ pub kept-front : {n : Numbers} {notes : List ℕ} {rs : List Record} {b₀ : Lis
     → (qs : List Record) → RecordsIn n.N qs → (k : ℕ) × (kept x qs ≡ take k qs)
 kept-front w [] h = (0, refl)
 kept-front {n} {notes} {rs} {b₀} {x} w (q ∷ qs) h =
-    go (λ (v : Wrote n notes (rs ++ q ∷ []) b₀ (after_add x q)). kept-front {rs = rs ++ q ∷ []} v qs h.1) (room_for (length notes) (length rs + 1) (length b₀)) refl
+    go (λ (v : Wrote n notes (rs ++ q ∷ []) b₀ (after_add x q)). kept-front {rs = rs ++ q ∷ []} v qs h.1)
+    (room_for (length notes) (length rs + 1) (length b₀)) refl
   where
     go : (Wrote n notes (rs ++ q ∷ []) b₀ (after_add x q) → (k : ℕ) × (kept (after_add x q) qs ≡ take k qs))
         → (t : Bool) → room_for (length notes) (length rs + 1) (length b₀) ≡ t → (k : ℕ) × (kept x (q ∷ qs) ≡ take k (q ∷ qs))

@@ -60,7 +60,8 @@ flush-as-request false k served m n h = refl
 flush-as-request true k served m n h = rw (lt-leb k.N 0 (h refl))
 
 -- a drop has neither kept numbers nor bytes of the caller's that could be wrong
-pub drop-as-request : (sound : Bool) (k : Numbers) (served m n page : ℕ) → request_verdict sound true k served m n page true ≡ drop_verdict sound k served m n page
+pub drop-as-request : (sound : Bool) (k : Numbers) (served m n page : ℕ) → request_verdict sound true k served m n page true ≡ drop_verdict sound k served
+    m n page
 unfolding request_verdict drop_verdict
 drop-as-request sound k served m n page = refl
 

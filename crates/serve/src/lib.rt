@@ -13,8 +13,8 @@ use model::{Answer, MOST_SERVED, Refusal, Verdict, Victim};
 
 // ---- refusals
 
-// Of a read or a write, and by its rows of a flush and a drop: whether the pool is sound, whether the kept numbers fit, the pool's numbers and served calls, the
-// `m` bytes of frame memory and `n` of store that are lent, the page, and whether the caller's own bytes fit. The costs refuse nothing.
+// Of a read or a write, and by its rows of a flush and a drop: whether the pool is sound, whether the kept numbers fit, the pool's numbers and served calls,
+// the `m` bytes of frame memory and `n` of store that are lent, the page, and whether the caller's own bytes fit. The costs refuse nothing.
 pub fn request_verdict(
     sound: bool,
     timed: bool,

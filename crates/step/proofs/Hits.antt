@@ -17,7 +17,8 @@ use Rattle.model.specs.Request.{hit, flushed}
 use Rattle.model.specs.declared.Answer.TheVariants.{Hit}
 use Rattle.pool.specs.Pool.{pool_of, state_of, Sound}
 use Rattle.pool.specs.declared.Pool.{Pool}
-use Rattle.pool.proofs.Form.{refilled, refilled-is, empty-in-places, clean-in-places, dirty-in-places, lengths-frames, page-pad, reference-pad, reference-at, reference-set}
+use Rattle.pool.proofs.Form.{refilled, refilled-is, empty-in-places, clean-in-places, dirty-in-places, lengths-frames, page-pad, reference-pad, reference-at}
+use Rattle.pool.proofs.Form.{reference-set}
 use Rattle.step.specs.Step.{step_of}
 use Rattle.step.specs.declared.Step.{Step}
 

@@ -57,7 +57,8 @@ module _ (x : Windows) where
 
 -- ---- the start of two windows
 
-pub start-right : (n : ℕ) (reads writes : List ℕ) → start_verdict n (length reads) (length writes) ≡ Fine → windows_right (start_after n reads writes).windows ≡ true
+pub start-right : (n : ℕ) (reads writes : List ℕ) → start_verdict n (length reads) (length writes) ≡ Fine
+    → windows_right (start_after n reads writes).windows ≡ true
 unfolding start_after start_verdict
 start-right n reads writes fine =
     let c = first-clear (start_rows n (length reads) (length writes)) fine in

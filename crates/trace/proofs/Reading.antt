@@ -26,11 +26,13 @@ use Rattle.trace.proofs.Records.{first_bad-none, first_bad-at}
 -- ---- what the check says of the header
 
 -- a trace that is refused, but not for its trailer, is refused for its first bad record
-pub refused-record : (s : List ℕ) (t : Trailer) (x : Refusal) → header_of s ≡ Fine t → checked_of s ≡ Refused x → (x ≡ BadRecord (bad_in s t)) × (1 ≤ bad_in s t)
+pub refused-record : (s : List ℕ) (t : Trailer) (x : Refusal) → header_of s ≡ Fine t → checked_of s ≡ Refused x → (x ≡ BadRecord (bad_in s t))
+    × (1 ≤ bad_in s t)
 unfolding checked_of
 refused-record s t x h e = by (eqb (bad_in s t) 0) refl (rw h at e)
   where
-    by : (b : Bool) → eqb (bad_in s t) 0 ≡ b → if-else b (Fine t) (Refused (BadRecord (bad_in s t))) ≡ Refused x → (x ≡ BadRecord (bad_in s t)) × (1 ≤ bad_in s t)
+    by : (b : Bool) → eqb (bad_in s t) 0 ≡ b → if-else b (Fine t) (Refused (BadRecord (bad_in s t))) ≡ Refused x → (x ≡ BadRecord (bad_in s t))
+        × (1 ≤ bad_in s t)
     by true p d = absurd (let z : ◌≡◌ {A = ℕ} 0 1 = cc in omega arith)
     by false p d = (cc, omega (arith, eqb-false (bad_in s t) 0 p))
 

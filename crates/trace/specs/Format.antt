@@ -6,7 +6,8 @@
 --
 -- The distance goes from the end of the file back to the first record.
 -- Assumes nothing.
-use Rattle.std.specs.Prelude.{ℕ, zero, suc, ◌+◌, ◌*◌, ◌-◌, Bool, true, false, not, ◌&&◌, cond as if-else, List, [], ◌∷◌, ◌++◌, eqb, leb, ltb, length, get_or, take, drop}
+use Rattle.std.specs.Prelude.{ℕ, zero, suc, ◌+◌, ◌*◌, ◌-◌, Bool, true, false, not, ◌&&◌, cond as if-else, List, [], ◌∷◌, ◌++◌, eqb, leb, ltb, length, get_or}
+use Rattle.std.specs.Prelude.{take, drop}
 use Rattle.little.specs.Little.{number_of}
 use Rattle.model.specs.Numbers.{Numbers, on_drive}
 use Rattle.model.specs.Refusals.{Row, first, out_of_limits}

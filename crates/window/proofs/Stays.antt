@@ -1,5 +1,5 @@
--- A window whose kept numbers are true of its places stays so. With nothing in it yet, nothing is filled and all is 0. A time that takes the next place fills the
--- first place that is not filled, or once all are, takes the place of an older time; the next place goes on, round below n, and the sum follows.
+-- A window whose kept numbers are true of its places stays so. With nothing in it yet, nothing is filled and all is 0. A time that takes the next place fills
+-- the first place that is not filled, or once all are, takes the place of an older time; the next place goes on, round below n, and the sum follows.
 --     window-right, right-window    the test of one window, as facts about its places
 --     fresh-right                   a window with nothing in it yet is right
 --     place-right                   a window that takes a time is right again

@@ -1,5 +1,4 @@
--- `bench_times::serve_all` meets its contract: it ends. The loop's invariant: i is at most the number of requests, and lent bytes and times keep their lengths. The
--- measure is what is left of the requests. Assumes nothing.
+-- The answers of `bench_times::serve_all`, by the invariant that is argued in Invariants. Assumes nothing.
 use Rattle.std.proofs.Common.{arith}
 use Rattle.bench_times.proofs.serve_all.Goals as goal
 

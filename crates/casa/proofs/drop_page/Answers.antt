@@ -23,13 +23,16 @@ request_verdict-verdict-requires c e = sound-sizes _ (sym c.sound-sound.ensures 
 
 pub drop-next-requires : goal.drop-next-requires
 drop-next-requires c =
-    let ok = drop-ready pools (world (goal.at.drop-next-requires c).After-request_verdict-verdict) c.args.page (sym (told (goal.at.drop-next-requires c).After-request_verdict-verdict) ∙ c.in-Fine.is) in
+    let ok = drop-ready pools (world (goal.at.drop-next-requires c).After-request_verdict-verdict) c.args.page
+    (sym (told (goal.at.drop-next-requires c).After-request_verdict-verdict) ∙ c.in-Fine.is) in
     record { sound = sound-is _ ok.0; ready = (ok.1, ok.2) }
 
 pub returns-in-Refused : goal.returns-in-Refused
-returns-in-Refused c = call-refused (world (goal.at.returns-in-Refused c).After-request_verdict-verdict) (call (goal.at.returns-in-Refused c).After-request_verdict-verdict) _ (told (goal.at.returns-in-Refused c).After-request_verdict-verdict) _ c.in-Refused.is
+returns-in-Refused c = call-refused (world (goal.at.returns-in-Refused c).After-request_verdict-verdict)
+    (call (goal.at.returns-in-Refused c).After-request_verdict-verdict) _ (told (goal.at.returns-in-Refused c).After-request_verdict-verdict) _ c.in-Refused.is
 
 pub returns-in-Fine : goal.returns-in-Fine
 returns-in-Fine c =
     let told-fine = c.in-Fine.is in
-    c.drop-next.ensures ∙ call-served (world (goal.at.returns-in-Fine c).After-request_verdict-verdict) (call (goal.at.returns-in-Fine c).After-request_verdict-verdict) _ (told (goal.at.returns-in-Fine c).After-request_verdict-verdict) told-fine
+    c.drop-next.ensures ∙ call-served (world (goal.at.returns-in-Fine c).After-request_verdict-verdict)
+    (call (goal.at.returns-in-Fine c).After-request_verdict-verdict) _ (told (goal.at.returns-in-Fine c).After-request_verdict-verdict) told-fine

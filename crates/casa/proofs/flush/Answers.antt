@@ -19,13 +19,16 @@ request_verdict-verdict-requires c e = sound-sizes _ (sym c.sound-sound.ensures 
 
 pub flush-next-requires : goal.flush-next-requires
 flush-next-requires c =
-    let ok = flush-ready pools (world (goal.at.flush-next-requires c).After-request_verdict-verdict) (sym (told (goal.at.flush-next-requires c).After-request_verdict-verdict) ∙ c.in-Fine.is) in
+    let ok = flush-ready pools (world (goal.at.flush-next-requires c).After-request_verdict-verdict)
+    (sym (told (goal.at.flush-next-requires c).After-request_verdict-verdict) ∙ c.in-Fine.is) in
     record { sound = sound-is _ ok.0; ready = ok.1 }
 
 pub returns-in-Refused : goal.returns-in-Refused
-returns-in-Refused c = call-refused (world (goal.at.returns-in-Refused c).After-request_verdict-verdict) flush _ (told (goal.at.returns-in-Refused c).After-request_verdict-verdict) _ c.in-Refused.is
+returns-in-Refused c = call-refused (world (goal.at.returns-in-Refused c).After-request_verdict-verdict) flush _
+    (told (goal.at.returns-in-Refused c).After-request_verdict-verdict) _ c.in-Refused.is
 
 pub returns-in-Fine : goal.returns-in-Fine
 returns-in-Fine c =
     let told-fine = c.in-Fine.is in
-    c.flush-next.ensures ∙ call-served (world (goal.at.returns-in-Fine c).After-request_verdict-verdict) flush _ (told (goal.at.returns-in-Fine c).After-request_verdict-verdict) told-fine
+    c.flush-next.ensures ∙ call-served (world (goal.at.returns-in-Fine c).After-request_verdict-verdict) flush _
+    (told (goal.at.returns-in-Fine c).After-request_verdict-verdict) told-fine

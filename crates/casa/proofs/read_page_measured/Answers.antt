@@ -29,12 +29,15 @@ request_verdict-verdict-requires c e = sound-sizes _ (sym c.sound-sound.ensures 
 pub read-read-requires : goal.read-read-requires
 read-read-requires c =
     let a = c.args in
-    let ok = read-clear pools (world (goal.at.read-read-requires c).After-request_verdict-verdict) (measured a.kept) a.page a.out.now (sym (told (goal.at.read-read-requires c).After-request_verdict-verdict) ∙ c.in-Fine.is) in
+    let ok = read-clear pools (world (goal.at.read-read-requires c).After-request_verdict-verdict) (measured a.kept) a.page a.out.now
+    (sym (told (goal.at.read-read-requires c).After-request_verdict-verdict) ∙ c.in-Fine.is) in
     record { sound = (sound-is _ ok.0, ok.4); ready = (ok.1, ok.2); out_len = eqb-true _ _ ok.3 }
 
 pub returns-in-Refused : goal.returns-in-Refused
-returns-in-Refused c = call-refused (world (goal.at.returns-in-Refused c).After-request_verdict-verdict) (call (goal.at.returns-in-Refused c).After-request_verdict-verdict) _ (told (goal.at.returns-in-Refused c).After-request_verdict-verdict) _ c.in-Refused.is
+returns-in-Refused c = call-refused (world (goal.at.returns-in-Refused c).After-request_verdict-verdict)
+    (call (goal.at.returns-in-Refused c).After-request_verdict-verdict) _ (told (goal.at.returns-in-Refused c).After-request_verdict-verdict) _ c.in-Refused.is
 
 pub returns-in-Fine : goal.returns-in-Fine
 returns-in-Fine c =
-    c.read-read.ensures ∙ call-served (world (goal.at.returns-in-Fine c).After-request_verdict-verdict) (call (goal.at.returns-in-Fine c).After-request_verdict-verdict) _ (told (goal.at.returns-in-Fine c).After-request_verdict-verdict) c.in-Fine.is
+    c.read-read.ensures ∙ call-served (world (goal.at.returns-in-Fine c).After-request_verdict-verdict)
+    (call (goal.at.returns-in-Fine c).After-request_verdict-verdict) _ (told (goal.at.returns-in-Fine c).After-request_verdict-verdict) c.in-Fine.is

@@ -30,12 +30,15 @@ request_verdict-verdict-requires c e = sound-sizes _ (sym c.sound-sound.ensures 
 pub write-wrote-requires : goal.write-wrote-requires
 write-wrote-requires c =
     let a = c.args in
-    let ok = write-clear pools (world (goal.at.write-wrote-requires c).After-request_verdict-verdict) (measured a.kept) a.page a.start a.bytes.now (sym (told (goal.at.write-wrote-requires c).After-request_verdict-verdict) ∙ c.in-Fine.is) in
+    let ok = write-clear pools (world (goal.at.write-wrote-requires c).After-request_verdict-verdict) (measured a.kept) a.page a.start a.bytes.now
+    (sym (told (goal.at.write-wrote-requires c).After-request_verdict-verdict) ∙ c.in-Fine.is) in
     record { sound = (sound-is _ ok.0, ok.4); ready = (ok.1, ok.2); bytes_bound = (stretch-fits _ _ _ ok.3).1 }
 
 pub returns-in-Refused : goal.returns-in-Refused
-returns-in-Refused c = call-refused (world (goal.at.returns-in-Refused c).After-request_verdict-verdict) (call (goal.at.returns-in-Refused c).After-request_verdict-verdict) _ (told (goal.at.returns-in-Refused c).After-request_verdict-verdict) _ c.in-Refused.is
+returns-in-Refused c = call-refused (world (goal.at.returns-in-Refused c).After-request_verdict-verdict)
+    (call (goal.at.returns-in-Refused c).After-request_verdict-verdict) _ (told (goal.at.returns-in-Refused c).After-request_verdict-verdict) _ c.in-Refused.is
 
 pub returns-in-Fine : goal.returns-in-Fine
 returns-in-Fine c =
-    c.write-wrote.ensures ∙ call-served (world (goal.at.returns-in-Fine c).After-request_verdict-verdict) (call (goal.at.returns-in-Fine c).After-request_verdict-verdict) _ (told (goal.at.returns-in-Fine c).After-request_verdict-verdict) c.in-Fine.is
+    c.write-wrote.ensures ∙ call-served (world (goal.at.returns-in-Fine c).After-request_verdict-verdict)
+    (call (goal.at.returns-in-Fine c).After-request_verdict-verdict) _ (told (goal.at.returns-in-Fine c).After-request_verdict-verdict) c.in-Fine.is

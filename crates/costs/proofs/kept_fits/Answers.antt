@@ -1,5 +1,5 @@
--- `costs::kept_fits` meets its contract: each answer no names a test that fails, and the last test is the one that is left. Windows that may be so long are short
--- enough for the test of each. Assumes nothing.
+-- `costs::kept_fits` meets its contract: each answer no names a test that fails, and the last test is the one that is left. Windows that may be so long are
+-- short enough for the test of each. Assumes nothing.
 use Rattle.std.proofs.Common.{◌≡◌, sym, ◌∙◌, true}
 use Rattle.model.specs.Times.{most_times, length_fits, window_fits, kept_fits}
 use Rattle.model.proofs.Limits.{between-means}

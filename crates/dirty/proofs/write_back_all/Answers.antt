@@ -1,5 +1,4 @@
--- `dirty::write_back_all` meets its contract. The loop's invariant: the frames from place i of the list on are in the store, which is as
--- long as it was; a turn writes one frame more, whose part of `frames` is `page_of`. The measure is i. Assumes nothing.
+-- The answers of `dirty::write_back_all`, by the invariant that is argued in Invariants. Assumes nothing.
 use Rattle.std.proofs.Common.{◌≡◌, refl, sym, ◌≤◌, ◌-◌, arith, length, get_or, rules}
 use Rattle.pages.specs.Memory.{FrameIn}
 use Rattle.pages.proofs.Pages.{page-is}

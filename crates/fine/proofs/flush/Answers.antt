@@ -9,7 +9,10 @@ write_back_all-requires c =
     let p = c.requires in
     let a = c.args in
     let l = p.ready in
-    record { n_le_places = (dirty-in-places a.pool p.sound).fits; by_index = dirty-in a.pool p.sound (length a.frames.now) (length a.store.now) l.frames l.store }
+    record {
+      n_le_places = (dirty-in-places a.pool p.sound).fits;
+      by_index = dirty-in a.pool p.sound (length a.frames.now) (length a.store.now) l.frames l.store;
+    }
 
 pub returns : goal.returns
 returns c =

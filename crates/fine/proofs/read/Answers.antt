@@ -27,13 +27,15 @@ read-read-requires c =
 pub bring-requires : goal.bring-requires
 bring-requires c =
     let l = c.requires.ready in
-    let ok = bring-in c.args.pool c.requires.sound.0 c.args.page _ _ l.0 l.1 Read (in-force (goal.at.bring-requires c).After-read-read) c.read-read.result (stepped (goal.at.bring-requires c).After-read-read) in
+    let ok = bring-in c.args.pool c.requires.sound.0 c.args.page _ _ l.0 l.1 Read (in-force (goal.at.bring-requires c).After-read-read) c.read-read.result
+    (stepped (goal.at.bring-requires c).After-read-read) in
     record { in_pages = ok.0; in_pages_2 = ok.1.0; answer_in = ok.1.1 }
 
 pub copy_out-requires : goal.copy_out-requires
 copy_out-requires c =
     let l = c.requires.ready in
-    let inside = frame-in c.args.pool c.requires.sound.0 c.args.page _ _ l.0 l.1 Read (in-force (goal.at.copy_out-requires c).After-read-read) c.read-read.result (stepped (goal.at.copy_out-requires c).After-read-read) in
+    let inside = frame-in c.args.pool c.requires.sound.0 c.args.page _ _ l.0 l.1 Read (in-force (goal.at.copy_out-requires c).After-read-read)
+    c.read-read.result (stepped (goal.at.copy_out-requires c).After-read-read) in
     record { out_len = c.requires.out_len; in_pages = omega (arith, inside, c.bring.auto) }
 
 pub returns : goal.returns

@@ -27,17 +27,20 @@ write-wrote-requires c =
 pub bring-requires : goal.bring-requires
 bring-requires c =
     let l = c.requires.ready in
-    let ok = bring-in c.args.pool c.requires.sound.0 c.args.page _ _ l.0 l.1 Write (in-force (goal.at.bring-requires c).After-write-wrote) c.write-wrote.result (stepped (goal.at.bring-requires c).After-write-wrote) in
+    let ok = bring-in c.args.pool c.requires.sound.0 c.args.page _ _ l.0 l.1 Write (in-force (goal.at.bring-requires c).After-write-wrote)
+    c.write-wrote.result (stepped (goal.at.bring-requires c).After-write-wrote) in
     record { in_pages = ok.0; in_pages_2 = ok.1.0; answer_in = ok.1.1 }
 
 pub overlay-requires : goal.overlay-requires
 overlay-requires c =
     let l = c.requires.ready in
-    let inside = frame-in c.args.pool c.requires.sound.0 c.args.page _ _ l.0 l.1 Write (in-force (goal.at.overlay-requires c).After-write-wrote) c.write-wrote.result (stepped (goal.at.overlay-requires c).After-write-wrote) in
+    let inside = frame-in c.args.pool c.requires.sound.0 c.args.page _ _ l.0 l.1 Write (in-force (goal.at.overlay-requires c).After-write-wrote)
+    c.write-wrote.result (stepped (goal.at.overlay-requires c).After-write-wrote) in
     record { in_pages = omega (arith, inside, c.bring.auto); bytes_bound = c.requires.bytes_bound }
 
 pub returns : goal.returns
 returns c =
     let a = c.args in
-    write-served a.pool (measured a.kept) a.page a.frames.now a.store.now _ _ c.write-wrote.result a.start a.bytes.now _ (stepped (goal.at.returns c).After-write-wrote)
+    write-served a.pool (measured a.kept) a.page a.frames.now a.store.now _ _ c.write-wrote.result a.start a.bytes.now _
+    (stepped (goal.at.returns c).After-write-wrote)
     c.bring.ensures c.overlay.ensures

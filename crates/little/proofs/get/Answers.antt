@@ -1,5 +1,4 @@
--- `little::get` meets its contract. The loop goes from the last byte to the first; its invariant: `r` is the number that the bytes from `i` on
--- spell. Of at most 8 bytes fewer than 8 are passed while one is left, so `r * 256` and a byte more fit. The measure is `i`. Assumes nothing.
+-- The answers of `little::get`, by the invariant that is argued in Invariants. Assumes nothing.
 use Rattle.std.proofs.Common.{◌≡◌, ◌-◌, ◌^◌, ◌<◌, arith, rules}
 use Rattle.little.specs.Little.{AllBelow}
 use Rattle.little.proofs.Turns.{get-start, get-turn, get-room}

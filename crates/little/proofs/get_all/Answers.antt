@@ -1,6 +1,4 @@
--- `little::get_all` meets its contract. The loop's invariant: the first `i` numbers of `xs`, followed by those that the bytes from part `i` on
--- spell, are all numbers. A turn reads part `i`, which lies within `bytes` as `i` is below the count; so the ends of the part fit a `usize`.
--- The measure is how many numbers are left. Assumes nothing.
+-- The answers of `little::get_all`, by the invariant that is argued in Invariants. Assumes nothing.
 use Rattle.std.proofs.Common.{refl, ◌+◌, ◌*◌, ◌≤◌, arith, length, length-set, rules}
 use Rattle.little.proofs.Turns.{part-within, get_all-start, get_all-turn, get_all-end}
 use Rattle.little.proofs.get_all.Goals as goal

@@ -1,6 +1,4 @@
--- `little::put` meets its contract. The loop's invariant: the bytes written, followed by the bytes of `rest` in the places that are left,
--- are the bytes of `x`. A turn moves the low byte of `rest` from the second part to the first; at the end the second part is empty.
--- The measure is how many places are left. Assumes nothing.
+-- The answers of `little::put`, by the invariant that is argued in Invariants. Assumes nothing.
 use Rattle.std.proofs.Common.{refl, arith, length-set, rules}
 use Rattle.little.proofs.Turns.{put-start, put-turn, put-end}
 use Rattle.little.proofs.put.Goals as goal

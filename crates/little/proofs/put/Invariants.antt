@@ -7,7 +7,8 @@ use Rattle.little.proofs.put.Given as goal
 
 abbrev pub invariant-loop-i : goal.invariant-loop-i
 invariant-loop-i l =
-    (l.i ≤ length l.initial.out) × (length l.out ≡ length l.initial.out) × (take l.i l.out ++ bytes_of (length l.initial.out - l.i) l.rest ≡ bytes_of (length l.initial.out) l.x)
+    (l.i ≤ length l.initial.out) × (length l.out ≡ length l.initial.out)
+    × (take l.i l.out ++ bytes_of (length l.initial.out - l.i) l.rest ≡ bytes_of (length l.initial.out) l.x)
 
 abbrev pub decreases-loop-i : goal.decreases-loop-i
 decreases-loop-i l = length l.initial.out - l.i

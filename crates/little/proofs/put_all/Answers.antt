@@ -1,6 +1,4 @@
--- `little::put_all` meets its contract. The loop's invariant: the first `i` parts of `out`, followed by the bytes of the numbers from `i` on,
--- are the bytes of all numbers. A turn fills part `i`, which lies within `out` as `i` is below the count; so the ends of the part fit a `usize`.
--- The measure is how many numbers are left. Assumes nothing.
+-- The answers of `little::put_all`, by the invariant that is argued in Invariants. Assumes nothing.
 use Rattle.std.proofs.Common.{◌+◌, ◌*◌, ◌≤◌, arith, length, rules}
 use Rattle.little.proofs.Turns.{part-within, put_all-start, put_all-turn, put_all-end}
 use Rattle.little.proofs.put_all.Goals as goal

@@ -7,7 +7,8 @@ use Rattle.little.proofs.put_all.Given as goal
 
 abbrev pub invariant-loop-i : goal.invariant-loop-i
 invariant-loop-i l =
-    (l.i ≤ length l.xs) × (length l.out ≡ length l.xs * l.width) × (take (l.i * l.width) l.out ++ bytes_of_all l.width (drop l.i l.xs) ≡ bytes_of_all l.width l.xs)
+    (l.i ≤ length l.xs) × (length l.out ≡ length l.xs * l.width)
+    × (take (l.i * l.width) l.out ++ bytes_of_all l.width (drop l.i l.xs) ≡ bytes_of_all l.width l.xs)
 
 abbrev pub decreases-loop-i : goal.decreases-loop-i
 decreases-loop-i l = length l.xs - l.i

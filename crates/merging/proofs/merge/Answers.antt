@@ -1,5 +1,4 @@
--- `merging::merge` meets its contract. The loop's invariant: the first i + j places hold as many frames of the merge, and what is left of it is the merge of
--- what is left of both lists. The measure is how many frames are left. Assumes nothing.
+-- The answers of `merging::merge`, by the invariant that is argued in Invariants. Assumes nothing.
 use Rattle.std.proofs.Common.{refl, sym, ◌∙◌, arith, rules}
 use Rattle.order.proofs.Places.{none-in-places}
 use Rattle.order.proofs.Merged.{merging-first, merging-second, merging-end}

@@ -1,5 +1,4 @@
--- `order::all_frames` meets its contract. The loop's invariant: the list holds k - 1, .., 0; a turn puts k before them. The measure is what is left of n.
--- Assumes nothing.
+-- The answers of `order::all_frames`, by the invariant that is argued in Invariants. Assumes nothing.
 use Rattle.std.proofs.Common.{◌≡◌, add-one, arith, rules}
 use Rattle.order.proofs.Places.{none-in-places, in-places-length, cons-in-places}
 use Rattle.order.proofs.all_frames.Goals as goal

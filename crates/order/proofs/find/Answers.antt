@@ -1,5 +1,4 @@
--- `order::find` meets its contract. The loop's invariant: the search through the frames from place `i` on gives what the search through all n gives;
--- the frames passed do not hold the page. The measure is how many frames are left. Assumes nothing.
+-- The answers of `order::find`, by the invariant that is argued in Invariants. Assumes nothing.
 use Rattle.std.proofs.Common.{refl, sym, ◌∙◌, arith, rules}
 use Rattle.order.proofs.Search.{find_from-hit, find_from-miss, find_from-end}
 use Rattle.order.proofs.find.Goals as goal

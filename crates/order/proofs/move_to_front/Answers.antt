@@ -1,5 +1,5 @@
--- `order::move_to_front` meets its contract: behind the first place it is `put_front` with what stands there, and at the first place the list is as it has to be.
--- Assumes nothing.
+-- `order::move_to_front` meets its contract: behind the first place it is `put_front` with what stands there, and at the first place the list is as it has to
+-- be. Assumes nothing.
 use Rattle.std.proofs.Common.{arith}
 use Rattle.order.proofs.Lists.{front-stays}
 use Rattle.order.proofs.move_to_front.Goals as goal

@@ -1,5 +1,4 @@
--- `order::put_front` meets its contract. The loop moves a hole down from `from` to 0: without the place of the hole the list is the same
--- all along, and the last store fills the hole at the front. The measure is the place of the hole. Assumes nothing.
+-- The answers of `order::put_front`, by the invariant that is argued in Invariants. Assumes nothing.
 use Rattle.std.proofs.Common.{◌≡◌, refl, ap, ◌∙◌, List, ◌∷◌, ℕ, arith, rules}
 use Rattle.order.proofs.Lists.{hole-down, hole-fill}
 use Rattle.order.proofs.put_front.Goals as goal

@@ -1,5 +1,4 @@
--- `order::stands_before` meets its contract. The loop's invariant: the flag says whether the page stands before place `k`. The measure is how many
--- places are left. Assumes nothing.
+-- The answers of `order::stands_before`, by the invariant that is argued in Invariants. Assumes nothing.
 use Rattle.std.proofs.Common.{◌≡◌, refl, sym, ◌∙◌, arith, rules}
 use Rattle.order.proofs.Search.{has_before-hit, has_before-miss}
 use Rattle.order.proofs.stands_before.Goals as goal

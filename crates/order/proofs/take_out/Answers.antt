@@ -1,5 +1,4 @@
--- `order::take_out` meets its contract. The loop moves a hole up from `at` to `last`: without the place of the hole the list is the same
--- all along, and the last store fills the hole with 0. The measure is how far the hole is from `last`. Assumes nothing.
+-- The answers of `order::take_out`, by the invariant that is argued in Invariants. Assumes nothing.
 use Rattle.std.proofs.Common.{◌≡◌, refl, ap, ◌∙◌, arith, rules}
 use Rattle.order.specs.Lists.{insert_at}
 use Rattle.order.proofs.Lists.{hole-up, hole-fill}

@@ -1,5 +1,5 @@
--- `pages::clear` meets its contract. The loop's invariant: the first `at` bytes are zeros, and the rest is as it was; a turn's store makes one more zero, and at the
--- end all are. The measure is what is left of the length. Assumes nothing.
+-- `pages::clear` meets its contract. The loop's invariant: the first `at` bytes are zeros, and the rest is as it was; a turn's store makes one more zero, and
+-- at the end all are. The measure is what is left of the length. Assumes nothing.
 use Rattle.std.proofs.Common.{◌≡◌, ◌++◌, ◌≤◌, ◌-◌, length, drop, replicate}
 use Rattle.pages.proofs.clear.Given as goal
 

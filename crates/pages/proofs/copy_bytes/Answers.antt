@@ -1,5 +1,4 @@
--- `pages::copy_bytes` meets its contract. The loop's invariant: the first i bytes are alike, and `to` is as long as `from`; a turn's store
--- makes one more alike, and at the end all are. The measure is what is left of the length. Assumes nothing.
+-- The answers of `pages::copy_bytes`, by the invariant that is argued in Invariants. Assumes nothing.
 use Rattle.std.proofs.Common.{arith, length-set}
 use Rattle.pages.proofs.Copy.{copy-more, copy-all}
 use Rattle.pages.proofs.copy_bytes.Goals as goal

@@ -1,5 +1,5 @@
--- `pages::wipe` meets its contract. The page is lent as a part of `store`, which is as long as a page, and comes back as zeros, with the rest as it was, which is
--- `with_page`. Assumes nothing.
+-- `pages::wipe` meets its contract. The page is lent as a part of `store`, which is as long as a page, and comes back as zeros, with the rest as it was,
+-- which is `with_page`. Assumes nothing.
 use Rattle.std.proofs.Common.{◌≡◌, ap, ◌∙◌, ℕ, ◌+◌, ◌-◌, ◌*◌, length, replicate, rules}
 use lib.ListN.{length-replicate}
 use borrow.Rule.Slice.PartMut.{mid_of}

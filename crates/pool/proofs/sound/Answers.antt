@@ -69,7 +69,20 @@ overflow_cast-pool c =
 pub standing_right-requires : goal.standing_right-requires
 standing_right-requires c =
     let l = limits (goal.at.standing_right-requires c).Else-not-in_limits in
-    let n = lengths-start (goal.at.standing_right-requires c).Start in record { le_frames = (l.b_low, l.b_high, lengths (goal.at.standing_right-requires c).Else-not-lengths_right, omega (arith, (counts (goal.at.standing_right-requires c).Else-not-counts_right).served_high)); e_len = (n.0, n.1, n.2); c_value = ((tails (goal.at.standing_right-requires c).Else-not-tails_right).clean, (tails (goal.at.standing_right-requires c).Else-not-tails_right).dirty) }
+    let n = lengths-start (goal.at.standing_right-requires c).Start in
+    record {
+      le_frames = (
+        l.b_low,
+        l.b_high,
+        lengths (goal.at.standing_right-requires c).Else-not-lengths_right,
+        omega (arith, (counts (goal.at.standing_right-requires c).Else-not-counts_right).served_high),
+      );
+      e_len = (n.0, n.1, n.2);
+      c_value = (
+        (tails (goal.at.standing_right-requires c).Else-not-tails_right).clean,
+        (tails (goal.at.standing_right-requires c).Else-not-tails_right).dirty,
+      );
+    }
 
 pub returns-then-not-standing_right : goal.returns-then-not-standing_right
 returns-then-not-standing_right c =
@@ -85,18 +98,25 @@ pub returns-then-full_right : goal.returns-then-full_right
 returns-then-full_right c =
     let n = lengths-start (goal.at.returns-then-full_right c).Start in
     sound-full _ n.0 n.1 n.2 n.3 n.4
-    (limits (goal.at.returns-then-full_right c).Else-not-in_limits) (counts (goal.at.returns-then-full_right c).Else-not-counts_right) (lengths (goal.at.returns-then-full_right c).Else-not-lengths_right) (tails (goal.at.returns-then-full_right c).Else-not-tails_right) (standing (goal.at.returns-then-full_right c).Else-not-standing_right)
+    (limits (goal.at.returns-then-full_right c).Else-not-in_limits) (counts (goal.at.returns-then-full_right c).Else-not-counts_right)
+    (lengths (goal.at.returns-then-full_right c).Else-not-lengths_right) (tails (goal.at.returns-then-full_right c).Else-not-tails_right)
+    (standing (goal.at.returns-then-full_right c).Else-not-standing_right)
     c.if-en-eq0.true (c.full_right.ensures c.if-full_right.true)
 
 pub pages_right-requires : goal.pages_right-requires
 pages_right-requires c =
     let l = limits (goal.at.pages_right-requires c).Else-not-in_limits in
     let n = lengths-start (goal.at.pages_right-requires c).Start in
-    record { frames_le_places = (l.b_high, l.N_low, l.N_high, omega (arith, lengths (goal.at.pages_right-requires c).Else-not-lengths_right), n.0, n.3); empty_right = frames-empty (standing (goal.at.pages_right-requires c).Else-not-standing_right).frames; page_value = (tails (goal.at.pages_right-requires c).Else-not-tails_right).pages }
+    record {
+      frames_le_places = (l.b_high, l.N_low, l.N_high, omega (arith, lengths (goal.at.pages_right-requires c).Else-not-lengths_right), n.0, n.3);
+      empty_right = frames-empty (standing (goal.at.pages_right-requires c).Else-not-standing_right).frames;
+      page_value = (tails (goal.at.pages_right-requires c).Else-not-tails_right).pages;
+    }
 
 pub returns : goal.returns
 returns c =
     let n = lengths-start (goal.at.returns c).Start in
     sound-last _ n.0 n.1 n.2 n.3 n.4
-    (limits (goal.at.returns c).Else-not-in_limits) (counts (goal.at.returns c).Else-not-counts_right) (lengths (goal.at.returns c).Else-not-lengths_right) (tails (goal.at.returns c).Else-not-tails_right) (standing (goal.at.returns c).Else-not-standing_right)
+    (limits (goal.at.returns c).Else-not-in_limits) (counts (goal.at.returns c).Else-not-counts_right) (lengths (goal.at.returns c).Else-not-lengths_right)
+    (tails (goal.at.returns c).Else-not-tails_right) (standing (goal.at.returns c).Else-not-standing_right)
     _ c.pages_right.ensures

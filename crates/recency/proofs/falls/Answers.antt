@@ -1,5 +1,4 @@
--- `recency::falls` meets its contract. The loop's invariant: the flag, and that the numbers from place `i` on fall from below the last one, together say
--- what is asked of the list from the first place on. The measure is how many frames are left. Assumes nothing.
+-- The answers of `recency::falls`, by the invariant that is argued in Invariants. Assumes nothing.
 use Rattle.std.proofs.Common.{refl, rules}
 use Rattle.order.proofs.Lists.{drop-take-next, drop-take-end}
 use Rattle.recency.proofs.Falling.{falls-spoilt, falls-kept, falls-zero, falls-through}
@@ -18,7 +17,10 @@ loop-i-preserved c =
     let a = c.args in
     let e = drop-take-next a.list.now a.n l.i (search rules) (search rules) in
     let h = c.number_at-number.ensures in
-    elim c.if-last-number.branch [ then-last-number w ↦ rw w.ok-is (falls-spoilt a.reference.now e h l.ok _ l.invariant w.if-last-number.true) | else-last-number w ↦ rw w.ok-is (falls-kept a.reference.now e h l.ok _ l.invariant w.if-last-number.false) ]
+    elim c.if-last-number.branch [
+      | then-last-number w ↦ rw w.ok-is (falls-spoilt a.reference.now e h l.ok _ l.invariant w.if-last-number.true)
+      | else-last-number w ↦ rw w.ok-is (falls-kept a.reference.now e h l.ok _ l.invariant w.if-last-number.false)
+    ]
 
 pub returns-then-last-eq0 : goal.returns-then-last-eq0
 returns-then-last-eq0 c =

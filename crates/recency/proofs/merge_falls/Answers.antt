@@ -1,5 +1,4 @@
--- `recency::merge_falls` meets its contract. The loop's invariant: that the numbers of what is left of the merge fall from below the last one says what is
--- asked of the whole merge. Where one list is through, the other is what is left. The measure is how many frames are left. Assumes nothing.
+-- The answers of `recency::merge_falls`, by the invariant that is argued in Invariants. Assumes nothing.
 use Rattle.std.proofs.Common.{◌≡◌, refl, sym, ap, ◌∙◌, true, ◌∷◌, ◌+◌, ◌≤◌, ◌<◌, get_or, take, drop, rules}
 use Rattle.order.specs.Merge.{merged}
 use Rattle.order.proofs.Merged.{rest-first, rest-second, rest-takes-first, rest-takes-second}
@@ -56,22 +55,26 @@ number_at-in_d-requires c =
 pub returns-then-last-in_c : goal.returns-then-last-in_c
 returns-then-last-in_c c =
     let l = c.loop-i in
-    falls-spoilt c.args.reference.now (clean-next (goal.at.returns-then-last-in_c c).After-number_at-in_d c.if-in_d-in_c.true) c.number_at-in_c.ensures true _ l.invariant c.if-last-in_c.true
+    falls-spoilt c.args.reference.now (clean-next (goal.at.returns-then-last-in_c c).After-number_at-in_d c.if-in_d-in_c.true) c.number_at-in_c.ensures
+    true _ l.invariant c.if-last-in_c.true
 
 pub loop-i-preserved-then-in_d-in_c : goal.loop-i-preserved-then-in_d-in_c
 loop-i-preserved-then-in_d-in_c c =
     let l = c.loop-i in
-    falls-kept c.args.reference.now (clean-next (goal.at.loop-i-preserved-then-in_d-in_c c).After-number_at-in_d c.if-in_d-in_c.true) c.number_at-in_c.ensures true _ l.invariant c.if-last-in_c.false
+    falls-kept c.args.reference.now (clean-next (goal.at.loop-i-preserved-then-in_d-in_c c).After-number_at-in_d c.if-in_d-in_c.true)
+    c.number_at-in_c.ensures true _ l.invariant c.if-last-in_c.false
 
 pub returns-then-last-in_d : goal.returns-then-last-in_d
 returns-then-last-in_d c =
     let l = c.loop-i in
-    falls-spoilt c.args.reference.now (dirty-next (goal.at.returns-then-last-in_d c).After-number_at-in_d c.if-in_d-in_c.false) c.number_at-in_d.ensures true _ l.invariant c.if-last-in_d.true
+    falls-spoilt c.args.reference.now (dirty-next (goal.at.returns-then-last-in_d c).After-number_at-in_d c.if-in_d-in_c.false) c.number_at-in_d.ensures
+    true _ l.invariant c.if-last-in_d.true
 
 pub loop-i-preserved : goal.loop-i-preserved
 loop-i-preserved c =
     let l = c.loop-i in
-    falls-kept c.args.reference.now (dirty-next (goal.at.loop-i-preserved c).After-number_at-in_d c.if-in_d-in_c.false) c.number_at-in_d.ensures true _ l.invariant c.if-last-in_d.false
+    falls-kept c.args.reference.now (dirty-next (goal.at.loop-i-preserved c).After-number_at-in_d c.if-in_d-in_c.false) c.number_at-in_d.ensures true _
+    l.invariant c.if-last-in_d.false
 
 pub falls-requires-2 : goal.falls-requires-2
 falls-requires-2 c = c.requires.dn_le_places

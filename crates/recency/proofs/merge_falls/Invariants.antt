@@ -7,7 +7,8 @@ use Rattle.recency.proofs.merge_falls.Given as goal
 
 abbrev pub invariant-loop-i : goal.invariant-loop-i
 invariant-loop-i l =
-    falls_from l.reference l.last (merged l.reference (drop l.i (take l.cn l.c)) (drop l.j (take l.dn l.d))) ≡ falls_from l.reference l.above (merged l.reference (take l.cn l.c) (take l.dn l.d))
+    falls_from l.reference l.last (merged l.reference (drop l.i (take l.cn l.c)) (drop l.j (take l.dn l.d))) ≡ falls_from l.reference l.above
+    (merged l.reference (take l.cn l.c) (take l.dn l.d))
 
 abbrev pub decreases-loop-i : goal.decreases-loop-i
 decreases-loop-i l = l.cn + l.dn - (l.i + l.j)

@@ -1,5 +1,4 @@
--- `recency::none_numbered` meets its contract. The loop's invariant: the frames from place `i` of the list on all have number 0 just if all n have it, since
--- those passed have it. The measure is how many frames are left. Assumes nothing.
+-- The answers of `recency::none_numbered`, by the invariant that is argued in Invariants. Assumes nothing.
 use Rattle.std.proofs.Common.{refl, Bool, true, List, ℕ, get_or, eqb, rules, eq-eqb, ne_eqb}
 use Rattle.order.proofs.Lists.{drop-take-next, drop-take-end}
 use Rattle.checks.proofs.Every.{every-spoilt, every-kept, every-end}

@@ -10,7 +10,8 @@ use Rattle.recency.proofs.standing_right.Goals as goal
 use Rattle.recency.proofs.standing_right.Goals.{Else-not-both_low, Else-not-frames_right}
 
 -- what the test of C and D finds out
-lists-exact : (b : ℕ) (c d : List ℕ) (cn dn : ℕ) → 1 ≤ b → length c ≡ places → length d ≡ places → every is_zero (drop cn c) ≡ true → every is_zero (drop dn d) ≡ true
+lists-exact : (b : ℕ) (c d : List ℕ) (cn dn : ℕ) → 1 ≤ b → length c ≡ places → length d ≡ places → every is_zero (drop cn c) ≡ true
+    → every is_zero (drop dn d) ≡ true
     → Exact (every (is_at_most (b - 1)) (take places c) && every (is_at_most (b - 1)) (take places d)) (Below b (take cn c) × Below b (take dn d))
 lists-exact b c d cn dn some lc ld zc zd = exact-and (low-exact b c cn some lc zc) (low-exact b d dn some ld zd)
 
@@ -44,7 +45,19 @@ pub merge_falls-requires : goal.merge_falls-requires
 merge_falls-requires c =
     let a = c.args in
     let p = c.requires.le_frames in
-    let n = c.requires.e_len in record { cn_le_places = (omega (arith, p), n.1, in-places a.frames a.c.now a.cn p.1 (omega (arith, p)) n.1 (low (goal.at.merge_falls-requires c).Else-not-both_low).0); dn_le_places = (omega (arith, p), n.2, in-places a.frames a.d.now a.dn p.1 (omega (arith, p)) n.2 (low (goal.at.merge_falls-requires c).Else-not-both_low).1) }
+    let n = c.requires.e_len in
+    record {
+      cn_le_places = (
+        omega (arith, p),
+        n.1,
+        in-places a.frames a.c.now a.cn p.1 (omega (arith, p)) n.1 (low (goal.at.merge_falls-requires c).Else-not-both_low).0,
+      );
+      dn_le_places = (
+        omega (arith, p),
+        n.2,
+        in-places a.frames a.d.now a.dn p.1 (omega (arith, p)) n.2 (low (goal.at.merge_falls-requires c).Else-not-both_low).1,
+      );
+    }
 
 pub returns-then-en-eq0 : goal.returns-then-en-eq0
 returns-then-en-eq0 c =
@@ -54,7 +67,8 @@ returns-then-en-eq0 c =
     let lc = length-take-le a.cn a.c.now (omega (arith, p, c.requires.e_len.1)) in
     let ld = length-take-le a.dn a.d.now (omega (arith, p, c.requires.e_len.2)) in
     full-decides a.frames a.served (take a.cn a.c.now) (take a.dn a.d.now) a.reference.now a.e.now
-    none (omega (arith, p, none, lc, ld)) (low (goal.at.returns-then-en-eq0 c).Else-not-both_low).0 (low (goal.at.returns-then-en-eq0 c).Else-not-both_low).1 _ c.merge_falls.ensures
+    none (omega (arith, p, none, lc, ld)) (low (goal.at.returns-then-en-eq0 c).Else-not-both_low).0
+    (low (goal.at.returns-then-en-eq0 c).Else-not-both_low).1 _ c.merge_falls.ensures
 
 pub returns-then-not-frames_right : goal.returns-then-not-frames_right
 returns-then-not-frames_right c r = let f = c.frames_right in decides-refuted f.result f.ensures c.if-not-frames_right.true r.frames
@@ -62,8 +76,12 @@ returns-then-not-frames_right c r = let f = c.frames_right in decides-refuted f.
 pub none_numbered-requires : goal.none_numbered-requires
 none_numbered-requires c =
     let a = c.args in
-    let p = c.requires.le_frames in
-    (omega (arith, p), c.requires.e_len.0, in-places a.frames a.e.now a.en p.1 (omega (arith, p)) c.requires.e_len.0 (empty-below (framed (goal.at.none_numbered-requires c).Else-not-frames_right)))
+    let p = c.requires.le_frames in (
+      omega (arith, p),
+      c.requires.e_len.0,
+      in-places a.frames a.e.now a.en p.1 (omega (arith, p)) c.requires.e_len.0
+          (empty-below (framed (goal.at.none_numbered-requires c).Else-not-frames_right)),
+    )
 
 pub returns-then-not-none_numbered : goal.returns-then-not-none_numbered
 returns-then-not-none_numbered c r =
@@ -75,7 +93,11 @@ merge_falls-requires-2 c =
     let f = framed (goal.at.merge_falls-requires-2 c).Else-not-frames_right in
     let a = c.args in
     let p = c.requires.le_frames in
-    let n = c.requires.e_len in record { cn_le_places = (omega (arith, p), n.1, in-places a.frames a.c.now a.cn p.1 (omega (arith, p)) n.1 (clean-below f)); dn_le_places = (omega (arith, p), n.2, in-places a.frames a.d.now a.dn p.1 (omega (arith, p)) n.2 (dirty-below f)) }
+    let n = c.requires.e_len in
+    record {
+      cn_le_places = (omega (arith, p), n.1, in-places a.frames a.c.now a.cn p.1 (omega (arith, p)) n.1 (clean-below f));
+      dn_le_places = (omega (arith, p), n.2, in-places a.frames a.d.now a.dn p.1 (omega (arith, p)) n.2 (dirty-below f));
+    }
 
 pub returns : goal.returns
 returns c =

@@ -1,5 +1,5 @@
--- `reckon::choose` meets its contract. Each way out has passed the tests of `chosen_by` with the same answers; some list has a frame, so where E and D have none
--- C has one. Whether C is above the target follows by arithmetic from what was compared: of a wrong comparison the checker names a case. Assumes nothing.
+-- `reckon::choose` meets its contract. Each way out has passed the tests of `chosen_by` with the same answers; some list has a frame, so where E and D have
+-- none C has one. Whether C is above the target follows by arithmetic from what was compared: of a wrong comparison the checker names a case. Assumes nothing.
 use Rattle.std.proofs.Common.{◌*◌, arith, lt-ltb, le-ltb, rules}
 use Rattle.model.specs.Numbers.{unit}
 use Rattle.reckon.proofs.choose.Goals as goal

@@ -12,4 +12,7 @@ returns c =
     let a = c.args in
     let e = c.drop_page-dropped.ensures in
     let v = dropping-verdict-is a.pool a.frames.now a.store.now (run.drop a.page) c.drop_page-dropped.result _ _ e in
-    record { store_after = e; buffer_after = c.add_dropped-recorded.ensures ∙ ap (λ (w : Verdict). recorded_by w (Drop a.page) (tape a.recorder a.buffer.now)) v }
+    record {
+      store_after = e;
+      buffer_after = c.add_dropped-recorded.ensures ∙ ap (λ (w : Verdict). recorded_by w (Drop a.page) (tape a.recorder a.buffer.now)) v;
+    }

@@ -34,7 +34,11 @@ returns-then-not-accepted c = rw (within (goal.at.returns-then-not-accepted c).E
 pub returns-then-not-has_room : goal.returns-then-not-has_room
 unfolding add_verdict
 returns-then-not-has_room c =
-    rw (within (goal.at.returns-then-not-has_room c).Else-not-numbers_allowed, found (goal.at.returns-then-not-has_room c).Else-not-accepted, sym c.has_room.ensures ∙ c.if-not-has_room.true)
+    rw (
+      within (goal.at.returns-then-not-has_room c).Else-not-numbers_allowed,
+      found (goal.at.returns-then-not-has_room c).Else-not-accepted,
+      sym c.has_room.ensures ∙ c.if-not-has_room.true,
+    )
 
 pub returns : goal.returns
 unfolding add_verdict

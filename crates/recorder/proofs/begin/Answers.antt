@@ -26,19 +26,35 @@ told c = c.close_verdict.ensures ∙ sym (begin-as-close (given-numbers c) (leng
 pub overlay-requires : goal.overlay-requires
 overlay-requires c =
     let fine = sym c.close_verdict.ensures ∙ c.in-Fine.is in
-    let room = (close-clear (recorder_of (given-numbers (goal.at.overlay-requires c).After-close_verdict) (length (notes (goal.at.overlay-requires c).After-close_verdict)) 0) (length (buffer (goal.at.overlay-requires c).After-close_verdict)) fine).1 in
+    let room = (close-clear
+    (recorder_of (given-numbers (goal.at.overlay-requires c).After-close_verdict) (length (notes (goal.at.overlay-requires c).After-close_verdict)) 0)
+    (length (buffer (goal.at.overlay-requires c).After-close_verdict)) fine).1 in
     record { in_pages = omega (arith, room.0); bytes_bound = omega arith }
 
 pub returns-in-Refused : goal.returns-in-Refused
 unfolding begin_after
 returns-in-Refused c =
-    (λ i. record { recorder = c.zeros-none.ensures i; said = recording_says (Refused c.in-Refused.why); buffer = buffer (goal.at.returns-in-Refused c).After-close_verdict })
-    ∙ ap (λ (v : Verdict). begin_if v (given-numbers (goal.at.returns-in-Refused c).After-close_verdict) (notes (goal.at.returns-in-Refused c).After-close_verdict) (buffer (goal.at.returns-in-Refused c).After-close_verdict)) (sym c.in-Refused.is ∙ told (goal.at.returns-in-Refused c).After-close_verdict)
+    (λ i. record {
+      recorder = c.zeros-none.ensures i;
+      said = recording_says (Refused c.in-Refused.why);
+      buffer = buffer (goal.at.returns-in-Refused c).After-close_verdict;
+    })
+    ∙ ap (λ (v : Verdict). begin_if v (given-numbers (goal.at.returns-in-Refused c).After-close_verdict)
+    (notes (goal.at.returns-in-Refused c).After-close_verdict) (buffer (goal.at.returns-in-Refused c).After-close_verdict))
+    (sym c.in-Refused.is ∙ told (goal.at.returns-in-Refused c).After-close_verdict)
 
 pub returns-in-Fine : goal.returns-in-Fine
 unfolding begin_after
 returns-in-Fine c =
     let front : 0 * length (notes (goal.at.returns-in-Fine c).After-close_verdict) + 0 ≡ 0 = omega arith in
-    ap (λ (b : List ℕ). recorded_left (record { recorder = recorder_of (given-numbers (goal.at.returns-in-Fine c).After-close_verdict) (length (notes (goal.at.returns-in-Fine c).After-close_verdict)) 0; answer = Recorded }) b)
-    (c.overlay.ensures ∙ ap (λ (k : ℕ). splice k (notes (goal.at.returns-in-Fine c).After-close_verdict) (buffer (goal.at.returns-in-Fine c).After-close_verdict)) front)
-    ∙ ap (λ (v : Verdict). begin_if v (given-numbers (goal.at.returns-in-Fine c).After-close_verdict) (notes (goal.at.returns-in-Fine c).After-close_verdict) (buffer (goal.at.returns-in-Fine c).After-close_verdict)) (sym c.in-Fine.is ∙ told (goal.at.returns-in-Fine c).After-close_verdict)
+    ap (λ (b : List ℕ). recorded_left
+    (record {
+      recorder = recorder_of (given-numbers (goal.at.returns-in-Fine c).After-close_verdict)
+          (length (notes (goal.at.returns-in-Fine c).After-close_verdict)) 0;
+      answer = Recorded;
+    }) b)
+    (c.overlay.ensures ∙ ap
+    (λ (k : ℕ). splice k (notes (goal.at.returns-in-Fine c).After-close_verdict) (buffer (goal.at.returns-in-Fine c).After-close_verdict)) front)
+    ∙ ap (λ (v : Verdict). begin_if v (given-numbers (goal.at.returns-in-Fine c).After-close_verdict)
+    (notes (goal.at.returns-in-Fine c).After-close_verdict) (buffer (goal.at.returns-in-Fine c).After-close_verdict))
+    (sym c.in-Fine.is ∙ told (goal.at.returns-in-Fine c).After-close_verdict)

@@ -1,5 +1,4 @@
--- `reports::fill_up` meets its contract: it ends, and every access is in range. The loop's invariant: the length stays; the end is within it. The measure is
--- what is left up to the end. Assumes nothing.
+-- The answers of `reports::fill_up`, by the invariant that is argued in Invariants. Assumes nothing.
 use Rattle.std.proofs.Common.{length-set}
 use Rattle.reports.proofs.fill_up.Goals as goal
 

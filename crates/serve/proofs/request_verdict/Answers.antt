@@ -27,7 +27,8 @@ returns-then-not-sound c =
 pub returns-then-not-timed : goal.returns-then-not-timed
 returns-then-not-timed c =
     let a = c.args in
-    request-windows a.sound a.timed (numbers-at (goal.at.returns-then-not-timed c).Start) a.served a.m a.n a.page a.fit (sound (goal.at.returns-then-not-timed c).Else-not-sound) c.if-not-timed.true
+    request-windows a.sound a.timed (numbers-at (goal.at.returns-then-not-timed c).Start) a.served a.m a.n a.page a.fit
+    (sound (goal.at.returns-then-not-timed c).Else-not-sound) c.if-not-timed.true
 
 pub sizes_match-requires : goal.sizes_match-requires
 sizes_match-requires c = c.requires (sound (goal.at.sizes_match-requires c).Else-not-sound)
@@ -35,29 +36,36 @@ sizes_match-requires c = c.requires (sound (goal.at.sizes_match-requires c).Else
 pub returns-then-not-sizes_match : goal.returns-then-not-sizes_match
 returns-then-not-sizes_match c =
     let a = c.args in
-    request-memory a.sound a.timed (numbers-at (goal.at.returns-then-not-sizes_match c).Start) a.served a.m a.n a.page a.fit (sound (goal.at.returns-then-not-sizes_match c).Else-not-sound) (timed (goal.at.returns-then-not-sizes_match c).Else-not-timed)
+    request-memory a.sound a.timed (numbers-at (goal.at.returns-then-not-sizes_match c).Start) a.served a.m a.n a.page a.fit
+    (sound (goal.at.returns-then-not-sizes_match c).Else-not-sound) (timed (goal.at.returns-then-not-sizes_match c).Else-not-timed)
     (sym c.sizes_match.ensures ∙ c.if-not-sizes_match.true)
 
 pub returns-then-pages-page : goal.returns-then-pages-page
 returns-then-pages-page c =
     let a = c.args in
-    request-page a.sound a.timed (numbers-at (goal.at.returns-then-pages-page c).Start) a.served a.m a.n a.page a.fit (sound (goal.at.returns-then-pages-page c).Else-not-sound)
+    request-page a.sound a.timed (numbers-at (goal.at.returns-then-pages-page c).Start) a.served a.m a.n a.page a.fit
+    (sound (goal.at.returns-then-pages-page c).Else-not-sound)
     (timed (goal.at.returns-then-pages-page c).Else-not-timed) (sized (goal.at.returns-then-pages-page c).Else-not-sizes_match) c.if-pages-page.true
 
 pub returns-then-not-fit : goal.returns-then-not-fit
 returns-then-not-fit c =
     let a = c.args in
-    request-bytes a.sound a.timed (numbers-at (goal.at.returns-then-not-fit c).Start) a.served a.m a.n a.page a.fit (sound (goal.at.returns-then-not-fit c).Else-not-sound)
-    (timed (goal.at.returns-then-not-fit c).Else-not-timed) (sized (goal.at.returns-then-not-fit c).Else-not-sizes_match) c.if-pages-page.false c.if-not-fit.true
+    request-bytes a.sound a.timed (numbers-at (goal.at.returns-then-not-fit c).Start) a.served a.m a.n a.page a.fit
+    (sound (goal.at.returns-then-not-fit c).Else-not-sound)
+    (timed (goal.at.returns-then-not-fit c).Else-not-timed) (sized (goal.at.returns-then-not-fit c).Else-not-sizes_match) c.if-pages-page.false
+    c.if-not-fit.true
 
 pub returns-then-served-ge-MOST_SERVED : goal.returns-then-served-ge-MOST_SERVED
 returns-then-served-ge-MOST_SERVED c =
     let a = c.args in
-    request-spent a.sound a.timed (numbers-at (goal.at.returns-then-served-ge-MOST_SERVED c).Start) a.served a.m a.n a.page a.fit (sound (goal.at.returns-then-served-ge-MOST_SERVED c).Else-not-sound)
-    (timed (goal.at.returns-then-served-ge-MOST_SERVED c).Else-not-timed) (sized (goal.at.returns-then-served-ge-MOST_SERVED c).Else-not-sizes_match) c.if-pages-page.false c.if-not-fit.false c.if-served-ge-MOST_SERVED.true
+    request-spent a.sound a.timed (numbers-at (goal.at.returns-then-served-ge-MOST_SERVED c).Start) a.served a.m a.n a.page a.fit
+    (sound (goal.at.returns-then-served-ge-MOST_SERVED c).Else-not-sound)
+    (timed (goal.at.returns-then-served-ge-MOST_SERVED c).Else-not-timed) (sized (goal.at.returns-then-served-ge-MOST_SERVED c).Else-not-sizes_match)
+    c.if-pages-page.false c.if-not-fit.false c.if-served-ge-MOST_SERVED.true
 
 pub returns : goal.returns
 returns c =
     let a = c.args in
     request-fine a.sound a.timed (numbers-at (goal.at.returns c).Start) a.served a.m a.n a.page a.fit (sound (goal.at.returns c).Else-not-sound)
-    (timed (goal.at.returns c).Else-not-timed) (sized (goal.at.returns c).Else-not-sizes_match) c.if-pages-page.false c.if-not-fit.false c.if-served-ge-MOST_SERVED.false
+    (timed (goal.at.returns c).Else-not-timed) (sized (goal.at.returns c).Else-not-sizes_match) c.if-pages-page.false c.if-not-fit.false
+    c.if-served-ge-MOST_SERVED.false

@@ -9,7 +9,11 @@ pub place_of-requires : goal.place_of-requires
 place_of-requires c =
     let s = c.requires in
     let b = s.good.limits.b_high in
-    record { cn_le_places = ((clean-in-places _ s).fits, (dirty-in-places _ s).fits); by_index = λ k h. omega (arith, clean-frame _ s k h); by_index_2 = λ k h. omega (arith, dirty-frame _ s k h) }
+    record {
+      cn_le_places = ((clean-in-places _ s).fits, (dirty-in-places _ s).fits);
+      by_index = λ k h. omega (arith, clean-frame _ s k h);
+      by_index_2 = λ k h. omega (arith, dirty-frame _ s k h);
+    }
 
 pub returns : goal.returns
 returns c = c.place_of.ensures ∙ place-is _ c.requires _

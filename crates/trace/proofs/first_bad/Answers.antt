@@ -1,5 +1,4 @@
--- `trace::first_bad` meets its contract. The loop's invariant: the search among all records is the search that goes on after the first `k`.
--- A turn takes one record more, or answers with its number; at the end none is left. The measure is how many are left. Assumes nothing.
+-- The answers of `trace::first_bad`, by the invariant that is argued in Invariants. Assumes nothing.
 use Rattle.std.proofs.Common.{sym, ◌∙◌, arith}
 use native.Mathlib.Nat.{sub-zero}
 use Rattle.trace.proofs.Records.{first_bad-next, first_bad-here, first_bad-done}

@@ -37,7 +37,8 @@ other-names-none ZeroTime n = refl
 other-names-none BrokenWindows n = refl
 
 pub overflow_sub-result : goal.overflow_sub-result
-overflow_sub-result c = let h = bad-header _ _ (is-bad (goal.at.overflow_sub-result c).In-BadRecord) in omega (arith, bad-record _ h.0 _ h.1 (is-bad (goal.at.overflow_sub-result c).In-BadRecord))
+overflow_sub-result c = let h = bad-header _ _ (is-bad (goal.at.overflow_sub-result c).In-BadRecord) in
+    omega (arith, bad-record _ h.0 _ h.1 (is-bad (goal.at.overflow_sub-result c).In-BadRecord))
 
 pub returns-in-BadRecord : goal.returns-in-BadRecord
 unfolding first_place

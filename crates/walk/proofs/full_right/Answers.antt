@@ -15,7 +15,8 @@ low : (c : Else-not-all_at_most) → every (is_at_most (c.args.pages - 1)) (take
 low c = test-passed c.all_at_most.ensures c.if-not-all_at_most.false
 
 -- where there are few pages, each has a mark
-marks-reach : (c : Else-pages-gt1024) → every (is_at_most (c.args.pages - 1)) (take places c.args.page.now) ≡ true → (f : ℕ) → f < c.args.frames → get_or c.args.page.now f 0 < 1024
+marks-reach : (c : Else-pages-gt1024) → every (is_at_most (c.args.pages - 1)) (take places c.args.page.now) ≡ true → (f : ℕ) → f < c.args.frames
+    → get_or c.args.page.now f 0 < 1024
 marks-reach c l f h =
     let p = c.requires in
     omega (arith, p.0, p.1, c.if-pages-gt1024.false, low-place c.args.page.now (c.args.pages - 1) p.3 l f (omega (arith, p.0)))
@@ -33,13 +34,19 @@ returns-then-not-all_at_most c e = absurd (false≢true e)
 pub returns-then-pages-gt1024 : goal.returns-then-pages-gt1024
 returns-then-pages-gt1024 c e =
     let a = c.args in
-    right (goal.at.returns-then-pages-gt1024 c).Else-not-all_at_most (λ f h. far-once a.frames a.page.now c.requires.3 (c.walk_far.ensures e) (get_or a.page.now f 0))
+    right (goal.at.returns-then-pages-gt1024 c).Else-not-all_at_most
+    (λ f h. far-once a.frames a.page.now c.requires.3 (c.walk_far.ensures e) (get_or a.page.now f 0))
 
 pub mark_pages-requires : goal.mark_pages-requires
-mark_pages-requires c = (search rules, search rules, marks-reach (goal.at.mark_pages-requires c).Else-pages-gt1024 (low (goal.at.mark_pages-requires c).Else-not-all_at_most))
+mark_pages-requires c = (
+  search rules,
+  search rules,
+  marks-reach (goal.at.mark_pages-requires c).Else-pages-gt1024 (low (goal.at.mark_pages-requires c).Else-not-all_at_most),
+)
 
 pub returns : goal.returns
 returns c e =
     let a = c.args in
     right (goal.at.returns c).Else-not-all_at_most
-    (λ f h. near-once (take a.frames a.page.now) (c.mark_pages.ensures (eqb-true _ _ e)) (get_or a.page.now f 0) (marks-reach (goal.at.returns c).Else-pages-gt1024 (low (goal.at.returns c).Else-not-all_at_most) f h))
+    (λ f h. near-once (take a.frames a.page.now) (c.mark_pages.ensures (eqb-true _ _ e)) (get_or a.page.now f 0)
+    (marks-reach (goal.at.returns c).Else-pages-gt1024 (low (goal.at.returns c).Else-not-all_at_most) f h))

@@ -1,5 +1,4 @@
--- `walk::mark_pages` meets its contract. The loop's invariant: where no page met a mark so far and, with the marks as they are, none from place `i` on will,
--- none of all does with the marks as they were. The measure is how many pages are left. Assumes nothing.
+-- The answers of `walk::mark_pages`, by the invariant that is argued in Invariants. Assumes nothing.
 use Rattle.std.proofs.Common.{refl, ◌<◌, rules}
 use Rattle.order.proofs.Lists.{drop-take-next, drop-take-end}
 use Rattle.walk.proofs.Full.{turn-fresh}

@@ -1,5 +1,4 @@
--- `walk::walk_far` meets its contract. The loop's invariant: where, with the marks as they are, each page from place `i` on meets no mark or stands alone,
--- so does each of all with the marks as they were. The measure is how many pages are left. Assumes nothing.
+-- The answers of `walk::walk_far`, by the invariant that is argued in Invariants. Assumes nothing.
 use Rattle.std.proofs.Common.{sym, ◌∙◌, ◌<◌, arith, rules}
 use mathlib.Core.Bool.{false≢true}
 use Rattle.order.proofs.Lists.{drop-take-next, drop-take-end}

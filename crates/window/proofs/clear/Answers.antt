@@ -1,5 +1,4 @@
--- `window::clear` meets its contract. The loop's invariant: the first `i` places are zeros, and the rest is as it was; a turn's store makes one more
--- zero, and at the end all are. The measure is what is left of the length. Assumes nothing.
+-- The answers of `window::clear`, by the invariant that is argued in Invariants. Assumes nothing.
 use Rattle.std.proofs.Common.{◌≡◌, refl, ◌∙◌, append-nil, arith, length, length-set}
 use lib.Seq.{drop-length}
 use borrow.Author.Fill.{fill_more}

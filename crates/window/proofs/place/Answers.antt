@@ -35,7 +35,14 @@ overflow_sub-others c =
 
 pub overflow_add-sum : goal.overflow_add-sum
 overflow_add-sum c =
-    omega (arith, sum-most c.args.times.now (λ k. (c.slice_known-2-1.given k).fits), (kept-true (goal.at.overflow_add-sum c).Start).sum, (kept-true (goal.at.overflow_add-sum c).Start).long, c.requires.0, c.ranges)
+    omega (
+      arith,
+      sum-most c.args.times.now (λ k. (c.slice_known-2-1.given k).fits),
+      (kept-true (goal.at.overflow_add-sum c).Start).sum,
+      (kept-true (goal.at.overflow_add-sum c).Start).long,
+      c.requires.0,
+      c.ranges,
+    )
 
 pub place_after-next-requires : goal.place_after-next-requires
 place_after-next-requires c = (kept-true (goal.at.place_after-next-requires c).Start).next
@@ -43,5 +50,6 @@ place_after-next-requires c = (kept-true (goal.at.place_after-next-requires c).S
 pub returns : goal.returns
 returns c =
     let a = c.args in
-    let filled : c.if-window-n.fill ≡ min (a.window.fill + 1) a.n = elim c.if-window-n.branch [ then-window-n w ↦ omega arith | else-window-n w ↦ omega arith ] in
+    let filled : c.if-window-n.fill ≡ min (a.window.fill + 1) a.n = elim c.if-window-n.branch
+    [ then-window-n w ↦ omega arith | else-window-n w ↦ omega arith ] in
     record { value = after-is a.n a.window a.times.now a.time filled c.place_after-next.ensures; times_after = refl }

@@ -30,10 +30,12 @@ pub returns-then-n-fill : goal.returns-then-n-fill
 returns-then-n-fill c = right-refused _ _ _ (λ r. omega (arith, r.fill, c.if-n-fill.true))
 
 pub returns-then-not-next_right : goal.returns-then-not-next_right
-returns-then-not-next_right c = right-refused _ _ _ (λ r. false≢true (sym c.if-not-next_right.true ∙ next-is (goal.at.returns-then-not-next_right c).After-next_right ∙ r.next))
+returns-then-not-next_right c = right-refused _ _ _
+    (λ r. false≢true (sym c.if-not-next_right.true ∙ next-is (goal.at.returns-then-not-next_right c).After-next_right ∙ r.next))
 
 pub returns-then-not-filled : goal.returns-then-not-filled
-returns-then-not-filled c = right-refused _ _ _ (λ r. false≢true (sym (not-true _ c.if-not-filled.true) ∙ (filled (goal.at.returns-then-not-filled c).After-tally_of-filled).1 ∙ r.filled))
+returns-then-not-filled c = right-refused _ _ _
+    (λ r. false≢true (sym (not-true _ c.if-not-filled.true) ∙ (filled (goal.at.returns-then-not-filled c).After-tally_of-filled).1 ∙ r.filled))
 
 pub returns-then-rest-ne0 : goal.returns-then-rest-ne0
 returns-then-rest-ne0 c = right-refused _ _ _ (λ r. c.if-rest-ne0.true (rest (goal.at.returns-then-rest-ne0 c).After-tally_of-rest ∙ r.rest))
@@ -43,4 +45,5 @@ returns c =
     let a = c.args in
     rw (filled (goal.at.returns c).After-tally_of-filled).0
     (right-last a.n a.window a.times.now c.if-times-n.false c.if-n-fill.false (sym (next-is (goal.at.returns c).After-next_right) ∙ c.if-not-next_right.false)
-    (sym (filled (goal.at.returns c).After-tally_of-filled).1 ∙ not-false _ c.if-not-filled.false) (sym (rest (goal.at.returns c).After-tally_of-rest) ∙ c.if-rest-ne0.false))
+    (sym (filled (goal.at.returns c).After-tally_of-filled).1 ∙ not-false _ c.if-not-filled.false) (sym (rest (goal.at.returns c).After-tally_of-rest)
+    ∙ c.if-rest-ne0.false))

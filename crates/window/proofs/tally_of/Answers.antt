@@ -1,6 +1,4 @@
--- `window::tally_of` meets its contract. The loop's invariant: what is added up so far and what stands from place `i` on is all, so that the sum is
--- never larger than at the end, where 32,768 times of 65,535 are below 2 ^ 31; and that the mark is still there, and none from place `i` on is 0, together say
--- that none is. No bit stands above the mark. The measure is how many times are left. Assumes nothing.
+-- The answers of `window::tally_of`, by the invariant that is argued in Invariants. Assumes nothing.
 use Rattle.std.proofs.Common.{refl, ◌∙◌, ◌+◌, ◌≤◌, ◌<◌, arith, length, get_or, drop_of_length-le, rules}
 use mathlib.Core.Bool.{and-true}
 use lib.Bits.{and_le_l}

@@ -1,5 +1,4 @@
--- `calls::chance::fill` meets its contract: it ends, and every access is in range. The loop's invariant: i is at most the length, which stays. The measure
--- is what is left of the store. Assumes nothing.
+-- The answers of `calls::chance::fill`, by the invariant that is argued in Invariants. Assumes nothing.
 use Rattle.std.proofs.Common.{length-set, rules}
 use Rattle.calls.proofs.chance.fill.Goals as goal
 

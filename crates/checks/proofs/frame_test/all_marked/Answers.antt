@@ -1,5 +1,4 @@
--- `checks::frame_test::all_marked` meets its contract. The loop's invariant: the flag, and that every place from `i` to `frames` is marked, together say
--- what is asked of all the first `frames` places. The measure is how many places are left. Assumes nothing.
+-- The answers of `checks::frame_test::all_marked`, by the invariant that is argued in Invariants. Assumes nothing.
 use Rattle.std.proofs.Common.{refl, ap, not, rules, eq-eqb, ne_eqb}
 use Rattle.checks.specs.Tests.{is_some}
 use Rattle.order.proofs.Lists.{drop-take-next, drop-take-end}
@@ -16,7 +15,10 @@ loop-i-preserved c =
     let l = c.loop-i in
     let e = drop-take-next a.marks.now a.frames l.i (search rules) (search rules) in (
       search rules,
-      elim c.if-marks-i-eq0.branch [ then-marks-i-eq0 w ↦ rw w.ok-is (every-spoilt is_some l.ok _ e (ap not (eq-eqb _ 0 w.if-marks-i-eq0.true)) l.invariant.1) | else-marks-i-eq0 w ↦ rw w.ok-is (every-kept is_some l.ok _ e (ap not (ne_eqb _ 0 w.if-marks-i-eq0.false)) l.invariant.1) ],
+      elim c.if-marks-i-eq0.branch [
+        | then-marks-i-eq0 w ↦ rw w.ok-is (every-spoilt is_some l.ok _ e (ap not (eq-eqb _ 0 w.if-marks-i-eq0.true)) l.invariant.1)
+        | else-marks-i-eq0 w ↦ rw w.ok-is (every-kept is_some l.ok _ e (ap not (ne_eqb _ 0 w.if-marks-i-eq0.false)) l.invariant.1)
+      ],
     )
 
 pub returns : goal.returns

@@ -1,5 +1,4 @@
--- `checks::frame_test::both_low` meets its contract. The loop's invariant: the flag, and that the numbers in every place from `i` on are at most `top`, together
--- say what is asked of all places of both lists. The larger of two is at most `top` just if both are. The measure is how many places are left. Assumes nothing.
+-- The answers of `checks::frame_test::both_low`, by the invariant that is argued in Invariants. Assumes nothing.
 use Rattle.std.proofs.Common.{refl, arith, get_or, take, drop, rules, le-leb}
 use mathlib.Core.Logic.{dite}
 use native.Mathlib.Decide.{dec_lt}

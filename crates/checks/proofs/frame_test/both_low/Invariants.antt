@@ -1,5 +1,6 @@
--- `checks::frame_test::both_low` meets its contract. The loop's invariant: the flag, and that the numbers in every place from `i` on are at most `top`, together
--- say what is asked of all places of both lists. The larger of two is at most `top` just if both are. The measure is how many places are left. Assumes nothing.
+-- `checks::frame_test::both_low` meets its contract. The loop's invariant: the flag, and that the numbers in every place from `i` on are at most `top`,
+-- together say what is asked of all places of both lists. The larger of two is at most `top` just if both are. The measure is how many places are left.
+-- Assumes nothing.
 use Rattle.std.proofs.Common.{◌≡◌, ◌&&◌, ◌-◌, ◌≤◌, take, drop}
 use Rattle.order.specs.Places.{places}
 use Rattle.checks.specs.Tests.{every, is_at_most}

@@ -1,5 +1,4 @@
--- `checks::frame_test::mark` meets its contract. The loop's invariant: with the numbers from place `i` of the list on still to be marked, the marks come
--- out as if all n were marked from the start. The measure is how many numbers are left. Assumes nothing.
+-- The answers of `checks::frame_test::mark`, by the invariant that is argued in Invariants. Assumes nothing.
 use Rattle.std.proofs.Common.{refl, rules}
 use Rattle.order.proofs.Lists.{drop-take-next, drop-take-end}
 use Rattle.checks.proofs.frame_test.mark.Goals as goal

@@ -1,5 +1,4 @@
--- `checks::page_test::all_at_most` meets its contract. The loop's invariant: the flag, and that every page from `i` to `frames` is at most `top`, together say
--- what is asked of all the first `frames` pages. The measure is how many pages are left. Assumes nothing.
+-- The answers of `checks::page_test::all_at_most`, by the invariant that is argued in Invariants. Assumes nothing.
 use Rattle.std.proofs.Common.{refl, rules, le-leb}
 use borrow.Author.Tests.{lt-leb}
 use Rattle.checks.specs.Tests.{is_at_most}
@@ -17,7 +16,10 @@ loop-i-preserved c =
     let l = c.loop-i in
     let e = drop-take-next a.page.now a.frames l.i (search rules) (search rules) in (
       search rules,
-      elim c.if-top-page.branch [ then-top-page w ↦ rw w.ok-is (every-spoilt (is_at_most a.top) l.ok _ e (lt-leb _ _ w.if-top-page.true) l.invariant.1) | else-top-page w ↦ rw w.ok-is (every-kept (is_at_most a.top) l.ok _ e (le-leb _ _ w.if-top-page.false) l.invariant.1) ],
+      elim c.if-top-page.branch [
+        | then-top-page w ↦ rw w.ok-is (every-spoilt (is_at_most a.top) l.ok _ e (lt-leb _ _ w.if-top-page.true) l.invariant.1)
+        | else-top-page w ↦ rw w.ok-is (every-kept (is_at_most a.top) l.ok _ e (le-leb _ _ w.if-top-page.false) l.invariant.1)
+      ],
     )
 
 pub returns : goal.returns

@@ -1,5 +1,4 @@
--- `checks::page_test::all_blank` meets its contract. The loop's invariant: the frames from place `i` of the list on all have page 0 just if all n have it,
--- since those passed have it. The measure is how many frames are left. Assumes nothing.
+-- The answers of `checks::page_test::all_blank`, by the invariant that is argued in Invariants. Assumes nothing.
 use Rattle.std.proofs.Common.{refl, Bool, true, List, ℕ, arith, get_or, eqb, rules, eq-eqb, ne_eqb}
 use Rattle.order.proofs.Lists.{drop-take-next, drop-take-end}
 use Rattle.checks.proofs.Every.{every-spoilt, every-kept, every-end}

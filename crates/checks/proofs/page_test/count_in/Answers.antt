@@ -1,5 +1,4 @@
--- `checks::page_test::count_in` meets its contract. The loop's invariant: what is counted so far and what stands from place `i` on is all, and at most `i`
--- are counted, so that the count does not wrap. The measure is how many pages are left. Assumes nothing.
+-- The answers of `checks::page_test::count_in`, by the invariant that is argued in Invariants. Assumes nothing.
 use Rattle.std.proofs.Common.{arith, rules}
 use Rattle.order.proofs.Lists.{drop-take-next, drop-take-end}
 use Rattle.checks.proofs.Every.{tally-more, tally-same}
@@ -16,7 +15,10 @@ loop-i-preserved c =
     let e = drop-take-next a.page.now a.frames l.i (search rules) (search rules) in (
       search rules,
       elim c.if-page-i.branch [ then-page-i w ↦ omega arith | else-page-i w ↦ omega arith ],
-      elim c.if-page-i.branch [ then-page-i w ↦ rw w.n-is (tally-more a.q l.n _ e l.invariant.2 w.if-page-i.true) | else-page-i w ↦ rw w.n-is (tally-same a.q l.n _ e l.invariant.2 w.if-page-i.false) ],
+      elim c.if-page-i.branch [
+        | then-page-i w ↦ rw w.n-is (tally-more a.q l.n _ e l.invariant.2 w.if-page-i.true)
+        | else-page-i w ↦ rw w.n-is (tally-same a.q l.n _ e l.invariant.2 w.if-page-i.false)
+      ],
     )
 
 pub returns : goal.returns

@@ -1,9 +1,9 @@
--- `checks::page_test::nonzero_apart` meets its contract. The loop's invariant: the flag says whether the pages before place `i` stand apart, and each of
--- them has a mark at its remainder. So a page that meets no mark stands nowhere before `i`. The measure is how many pages are left. Assumes nothing.
+-- The answers of `checks::page_test::nonzero_apart`, by the invariant that is argued in Invariants. Assumes nothing.
 use Rattle.std.proofs.Common.{◌≡◌, refl, sym, ◌∙◌, arith, below_none, rules}
 use Rattle.checks.proofs.Apart.{knows-more, knows-met, knows-new, nonzero_apart-twice, nonzero_apart-zero, nonzero_apart-new}
 use Rattle.checks.proofs.page_test.nonzero_apart.Goals as goal
-use Rattle.checks.proofs.page_test.nonzero_apart.Goals.{then-marks-k-eq0, else-marks-k-eq0+then-q-ne0+then-stands_before, else-marks-k-eq0+then-q-ne0+else-stands_before, else-marks-k-eq0+else-q-ne0}
+use Rattle.checks.proofs.page_test.nonzero_apart.Goals.{then-marks-k-eq0, else-marks-k-eq0+then-q-ne0+then-stands_before}
+use Rattle.checks.proofs.page_test.nonzero_apart.Goals.{else-marks-k-eq0+then-q-ne0+else-stands_before, else-marks-k-eq0+else-q-ne0}
 
 pub loop-i-init : goal.loop-i-init
 loop-i-init c = (search rules, refl, (refl, below_none _))

@@ -1,5 +1,4 @@
--- `checks::tails::zeros32` meets its contract. The loop's invariant: the flag, and that every place from `i` on holds 0, together say what is asked of the
--- places from `from` on. The measure is how many places are left. Assumes nothing.
+-- The answers of `checks::tails::zeros32`, by the invariant that is argued in Invariants. Assumes nothing.
 use Rattle.std.proofs.Common.{refl, ◌≤◌, ◌<◌, length, drop_of_length-le, rules, eq-eqb, ne_eqb}
 use Rattle.checks.specs.Tests.{is_zero}
 use Rattle.order.proofs.Lists.{drop-next}
@@ -16,7 +15,10 @@ loop-i-preserved c =
     let l = c.loop-i in
     let h : l.i < length list = search rules in
     let e = drop-next list l.i h in
-    elim c.if-list-i-ne0.branch [ then-list-i-ne0 w ↦ rw w.ok-is (every-spoilt is_zero l.ok _ e (ne_eqb _ 0 w.if-list-i-ne0.true) l.invariant) | else-list-i-ne0 w ↦ rw w.ok-is (every-kept is_zero l.ok _ e (eq-eqb _ 0 w.if-list-i-ne0.false) l.invariant) ]
+    elim c.if-list-i-ne0.branch [
+      | then-list-i-ne0 w ↦ rw w.ok-is (every-spoilt is_zero l.ok _ e (ne_eqb _ 0 w.if-list-i-ne0.true) l.invariant)
+      | else-list-i-ne0 w ↦ rw w.ok-is (every-kept is_zero l.ok _ e (eq-eqb _ 0 w.if-list-i-ne0.false) l.invariant)
+    ]
 
 pub returns : goal.returns
 returns c =

@@ -43,7 +43,10 @@ pub page_in-victim-requires : goal.page_in-victim-requires
 page_in-victim-requires c = (in-clean c).frame
 
 pub take_out-requires-in-OfClean : goal.take_out-requires-in-OfClean
-take_out-requires-in-OfClean c = record { list_len = search rules; at_le_last = omega (arith, in-clean (goal.at.take_out-requires-in-OfClean c).After-struct_known-in-OfClean-1) }
+take_out-requires-in-OfClean c = record {
+  list_len = search rules;
+  at_le_last = omega (arith, in-clean (goal.at.take_out-requires-in-OfClean c).After-struct_known-in-OfClean-1);
+}
 
 pub overflow_sub-last-in-OfDirty : goal.overflow_sub-last-in-OfDirty
 overflow_sub-last-in-OfDirty c = omega (arith, rw c.in-OfDirty.is at (choice-stands _ c.requires.sound c.args.choice c.requires.choice_in))
@@ -55,7 +58,10 @@ pub page_in-victim-requires-in-OfDirty : goal.page_in-victim-requires-in-OfDirty
 page_in-victim-requires-in-OfDirty c = (in-dirty c).frame
 
 pub take_out-requires-in-OfDirty : goal.take_out-requires-in-OfDirty
-take_out-requires-in-OfDirty c = record { list_len = search rules; at_le_last = omega (arith, in-dirty (goal.at.take_out-requires-in-OfDirty c).After-struct_known-in-OfDirty-1) }
+take_out-requires-in-OfDirty c = record {
+  list_len = search rules;
+  at_le_last = omega (arith, in-dirty (goal.at.take_out-requires-in-OfDirty c).After-struct_known-in-OfDirty-1);
+}
 
 pub returns-in-OfEmpty : goal.returns-in-OfEmpty
 returns-in-OfEmpty c =

@@ -1,5 +1,4 @@
--- `time_calls::change::copy` meets its contract: it ends, and every access is in range. The loop's invariant: i is at most the length, which stays. The measure
--- is what is left of the copy. Assumes nothing.
+-- The answers of `time_calls::change::copy`, by the invariant that is argued in Invariants. Assumes nothing.
 use Rattle.std.proofs.Common.{length-set, rules}
 use Rattle.time_calls.proofs.change.copy.Goals as goal
 
