@@ -4,12 +4,8 @@
 
 pub mod record;
 
-use model::Costing;
+use model::Numbers;
 use pool::Pool;
-
-fn wide(x: u16) -> usize {
-    x as usize
-}
 
 // One request: 0 reads a page, 1 writes eight bytes of it, 3 drops it, anything else flushes.
 fn serve(
@@ -20,40 +16,12 @@ fn serve(
     store: &mut [u8],
     out: &mut [u8],
 ) -> Pool {
-    if op == 0 {
-        let served = casa::read_page(pool, page, frames, store, out);
-        return served.pool;
+    match op {
+        0 => casa::read_page(pool, page, frames, store, out).pool,
+        1 => casa::write_page(pool, page, 0, &[1; 8], frames, store).pool,
+        3 => casa::drop_page(pool, page, frames, store).pool,
+        _ => casa::flush(pool, frames, store).pool,
     }
-    if op == 1 {
-        let bytes = [1u8; 8];
-        let served = casa::write_page(pool, page, 0, &bytes, frames, store);
-        return served.pool;
-    }
-    if op == 3 {
-        let dropped = casa::drop_page(pool, page, frames, store);
-        return dropped.pool;
-    }
-    let flushed = casa::flush(pool, frames, store);
-    flushed.pool
-}
-
-// The request at a place, if both lists have it.
-fn serve_at(
-    pool: Pool,
-    ops: &[u8],
-    pages: &[u16],
-    i: usize,
-    frames: &mut [u8],
-    store: &mut [u8],
-    out: &mut [u8],
-) -> Pool {
-    if ops.len() <= i {
-        return pool;
-    }
-    if pages.len() <= i {
-        return pool;
-    }
-    serve(pool, ops[i], wide(pages[i]), frames, store, out)
 }
 
 // All requests in order.
@@ -66,29 +34,20 @@ fn serve_all(
     out: &mut [u8],
 ) -> Pool {
     let mut now = pool;
-    let mut i = 0;
-    while i < ops.len() {
-        let next = serve_at(now, ops, pages, i, frames, store, out);
-        now = next;
-        i += 1;
+    for (op, page) in ops.iter().zip(pages) {
+        now = serve(now, *op, usize::from(*page), frames, store, out);
     }
     now
 }
 
-// How many of n totals are refused, which is none: each is a test of soundness and two products.
-fn ask(pool: Pool, n: u64) -> u64 {
-    let mut now = pool;
+// The last of n totals that is refused, which is none: each is a test of soundness and two products.
+fn ask(mut pool: Pool, n: u64) -> u64 {
     let mut refused = 0;
-    let mut k = 0;
-    while k < n {
-        now.target = k;
-        match casa::total(now) {
-            Costing::Refused(_) => {
-                refused = k;
-            }
-            Costing::Total(_) => {}
+    for k in 0..n {
+        pool.target = k;
+        if casa::total(pool).is_err() {
+            refused = k;
         }
-        k += 1;
     }
     refused
 }
@@ -106,12 +65,13 @@ pub extern "C" fn bench_serve(
     out: &mut [u8],
     n: u64,
 ) -> u64 {
-    let opened = casa::open(b, size, count, 1, 4);
-    let pool = opened.pool;
-    let last = serve_all(pool, ops, pages, frames, store, out);
-    let refused = ask(last, n);
-    if refused < last.reads.0 {
-        return last.reads.0;
-    }
-    refused
+    let opened = casa::open(Numbers {
+        frames: b,
+        page_bytes: size,
+        pages: count,
+        read_cost: 1,
+        write_cost: 4,
+    });
+    let last = serve_all(opened.pool, ops, pages, frames, store, out);
+    ask(last, n).max(last.reads.0)
 }

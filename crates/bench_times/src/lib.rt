@@ -3,28 +3,15 @@
 // them, and every call of a pool beside which times are kept is linked.
 #![tactic(auto)]
 
-use model::{Costing, Kept, Window};
+use model::{Kept, Numbers, Window};
 use pool::Pool;
-
-fn wide(x: u16) -> usize {
-    x as usize
-}
 
 // What is kept after a request of the windows: 4 reports a read's time, 5 a write's, 6 starts windows of so many times. Any other leaves it.
 fn note(kept: Kept, op: u8, number: u16, reads: &mut [u16], writes: &mut [u16]) -> Kept {
     match op {
-        4 => {
-            let noted = times::report_read(kept, number, reads, writes);
-            noted.kept
-        }
-        5 => {
-            let noted = times::report_write(kept, number, reads, writes);
-            noted.kept
-        }
-        6 => {
-            let started = times::start(wide(number), reads, writes);
-            started.kept
-        }
+        4 => times::report_read(kept, number, reads, writes).kept,
+        5 => times::report_write(kept, number, reads, writes).kept,
+        6 => times::start(usize::from(number), reads, writes).kept,
         _ => kept,
     }
 }
@@ -40,45 +27,12 @@ fn serve(
     out: &mut [u8],
 ) -> Pool {
     match op {
-        0 => {
-            let served = casa::read_page_measured(pool, kept, page, frames, store, out);
-            served.pool
-        }
-        1 => {
-            let bytes = [1u8; 8];
-            let served = casa::write_page_measured(pool, kept, page, 0, &bytes, frames, store);
-            served.pool
-        }
-        2 => {
-            let flushed = casa::flush(pool, frames, store);
-            flushed.pool
-        }
-        3 => {
-            let dropped = casa::drop_page(pool, page, frames, store);
-            dropped.pool
-        }
+        0 => casa::read_page_measured(pool, kept, page, frames, store, out).pool,
+        1 => casa::write_page_measured(pool, kept, page, 0, &[1; 8], frames, store).pool,
+        2 => casa::flush(pool, frames, store).pool,
+        3 => casa::drop_page(pool, page, frames, store).pool,
         _ => pool,
     }
-}
-
-// A request: what it asks, and a page, a time or a length.
-#[derive(Clone, Copy)]
-struct Request {
-    op: u8,
-    number: u16,
-}
-
-// The request at a place, if both lists have it.
-fn request_at(ops: &[u8], pages: &[u16], i: usize) -> Request {
-    if ops.len() <= i {
-        return Request { op: 7, number: 0 };
-    }
-    if pages.len() <= i {
-        return Request { op: 7, number: 0 };
-    }
-    let op = ops[i];
-    let number = pages[i];
-    Request { op, number }
 }
 
 // What a run leaves: the pool, and what is kept of its windows.
@@ -88,70 +42,46 @@ struct House {
     kept: Kept,
 }
 
-// All requests in order.
+// All requests in order, each with a page, a time or a length.
 fn serve_all(
     house: House,
     ops: &[u8],
-    pages: &[u16],
+    numbers: &[u16],
     frames: &mut [u8],
     store: &mut [u8],
     out: &mut [u8],
     reads: &mut [u16],
     writes: &mut [u16],
 ) -> House {
-    let mut pool = house.pool;
-    let mut kept = house.kept;
-    let mut i = 0;
-    while i < ops.len() {
-        let request = request_at(ops, pages, i);
-        i += 1;
-        let noted = note(kept, request.op, request.number, reads, writes);
-        kept = noted;
-        let served = serve(
-            pool,
-            kept,
-            request.op,
-            wide(request.number),
-            frames,
-            store,
-            out,
-        );
-        pool = served;
+    let House { mut pool, mut kept } = house;
+    for (op, number) in ops.iter().zip(numbers) {
+        kept = note(kept, *op, *number, reads, writes);
+        pool = serve(pool, kept, *op, usize::from(*number), frames, store, out);
     }
     House { pool, kept }
 }
 
-fn window_of(fill: usize, next: usize, sum: u64) -> Window {
-    Window { fill, next, sum }
-}
-
-// Another number for almost any other x, and for almost any other before it.
-fn mixed(sum: u64, x: u64) -> u64 {
-    (sum << 5) ^ (sum >> 59) ^ x
-}
-
-fn mixed_window(sum: u64, window: Window) -> u64 {
-    let fill = mixed(sum, window.fill as u64);
-    let next = mixed(fill, window.next as u64);
-    mixed(next, window.sum)
-}
-
-fn cost_of(pool: Pool) -> u64 {
-    match casa::total(pool) {
-        Costing::Refused(why) => model::number_of(why),
-        Costing::Total(cost) => cost,
-    }
-}
-
 // What a run left, in one number, so that nothing is left out: it tells of the total cost, of the target and of what is kept.
 fn told(house: House) -> u64 {
-    let pool = house.pool;
-    let kept = house.kept;
-    let target = mixed(cost_of(pool), pool.target);
-    let length = mixed(target, kept.n as u64);
-    let reads = kept.reads;
-    let writes = kept.writes;
-    mixed_window(mixed_window(length, reads), writes)
+    let House { pool, kept } = house;
+    let cost = match casa::total(pool) {
+        Ok(cost) => cost,
+        Err(why) => why.number(),
+    };
+    let numbers = [
+        pool.target,
+        kept.n as u64,
+        kept.reads.fill as u64,
+        kept.reads.next as u64,
+        kept.reads.sum,
+        kept.writes.fill as u64,
+        kept.writes.next as u64,
+        kept.writes.sum,
+    ];
+    // Another number for almost any other one, and for almost any other before it.
+    numbers
+        .iter()
+        .fold(cost, |mixed, number| mixed.rotate_left(5) ^ *number)
 }
 
 // Opens a pool and serves the requests with kept numbers made by hand.
@@ -175,14 +105,26 @@ pub extern "C" fn bench_times(
     reads: &mut [u16],
     writes: &mut [u16],
 ) -> u64 {
-    let opened = casa::open(b, size, count, 1, 4);
-    let pool = opened.pool;
-    let of_reads = window_of(read_fill, read_next, read_sum);
-    let of_writes = window_of(write_fill, write_next, write_sum);
+    let pool = casa::open(Numbers {
+        frames: b,
+        page_bytes: size,
+        pages: count,
+        read_cost: 1,
+        write_cost: 4,
+    })
+    .pool;
     let kept = Kept {
         n,
-        reads: of_reads,
-        writes: of_writes,
+        reads: Window {
+            fill: read_fill,
+            next: read_next,
+            sum: read_sum,
+        },
+        writes: Window {
+            fill: write_fill,
+            next: write_next,
+            sum: write_sum,
+        },
     };
     let house = House { pool, kept };
     told(serve_all(house, ops, pages, frames, store, out, reads, writes))

@@ -5,8 +5,6 @@ use crate::Call;
 use crate::chance::below;
 use model::{Kept, Window};
 
-const FAR: u64 = 18446744073709551615;
-
 // ---- right ones
 
 // How many times a window has: few, many, or as many as may be.
@@ -23,16 +21,6 @@ fn size_by(chance: usize) -> usize
     }
 }
 
-fn fill_by(n: usize, full: bool, chance: usize) -> usize
-    requires { (1 ≤ n) × (n ≤ 32768) }
-    ensures { result ≤ 32768 }
-{
-    if full {
-        return n;
-    }
-    below(n, chance)
-}
-
 // Times that are all 1, all 65,535, or add up to any sum between.
 fn sum_by(fill: usize, chance: usize) -> u64
     requires { fill ≤ 32768 }
@@ -41,7 +29,7 @@ fn sum_by(fill: usize, chance: usize) -> u64
     match chance % 8 {
         0 => least,
         1 => least * 65535,
-        _ => std::num::wrapping_add_u64(least, chance as u64 % (least * 65534 + 1)),
+        _ => least.wrapping_add(chance as u64 % (least * 65534 + 1)),
     }
 }
 
@@ -50,7 +38,7 @@ fn window_by(n: usize, full: bool, chance: usize) -> Window
     requires { (1 ≤ n) × (n ≤ 32768) }
     ensures { result.fill ≤ 32768 }
 {
-    let fill = fill_by(n, full, chance / 8);
+    let fill = if full { n } else { below(n, chance / 8) };
     Window {
         fill,
         next: below(n, fill),
@@ -61,62 +49,54 @@ fn window_by(n: usize, full: bool, chance: usize) -> Window
 // ---- changed ones
 
 // A fill above n, with a sum that suits it or without; a sum past either end; a next place that is none, which no serving call sees.
-fn changed_window(window: Window, n: usize, way: usize) -> Window
+fn changed_window(mut window: Window, n: usize, way: usize) -> Window
     requires { (window.fill ≤ 32768) × (n ≤ 32768) }
 {
-    let mut new = window;
     let fill = window.fill as u64;
     match way {
         0 => {
-            new.fill = n + 1;
-            new.sum = n as u64 + 1;
+            window.fill = n + 1;
+            window.sum = n as u64 + 1;
         }
-        1 => new.fill = FAR as usize,
-        2 => new.sum = std::num::wrapping_sub_u64(fill, 1),
-        3 => new.sum = fill * 65535 + 1,
-        4 => new.sum = FAR,
+        1 => window.fill = usize::MAX,
+        2 => window.sum = fill.wrapping_sub(1),
+        3 => window.sum = fill * 65535 + 1,
+        4 => window.sum = u64::MAX,
         5 => {
-            new.fill = 0;
-            new.sum = 1;
+            window.fill = 0;
+            window.sum = 1;
         }
-        6 => new.next = n,
-        _ => new.next = FAR as usize,
+        6 => window.next = n,
+        _ => window.next = usize::MAX,
     }
-    new
+    window
 }
 
-fn changed_size(reads: Window, writes: Window, way: usize) -> Kept {
+fn changed_size(kept: Kept, way: usize) -> Kept {
     match way {
         0 => costs::fresh(0),
-        1 => Kept {
-            n: 32769,
-            reads,
-            writes,
-        },
+        1 => Kept { n: 32769, ..kept },
         _ => Kept {
-            n: FAR as usize,
-            reads,
-            writes,
+            n: usize::MAX,
+            ..kept
         },
     }
 }
 
 // n, or one thing of either window.
-fn changed(n: usize, reads: Window, writes: Window, which: usize) -> Kept
-    requires { (n ≤ 32768) × (reads.fill ≤ 32768) × (writes.fill ≤ 32768) }
+fn changed(kept: Kept, which: usize) -> Kept
+    requires { (kept.n ≤ 32768) × (kept.reads.fill ≤ 32768) × (kept.writes.fill ≤ 32768) }
 {
     let way = which / 3;
     match which % 3 {
-        0 => changed_size(reads, writes, way % 3),
+        0 => changed_size(kept, way % 3),
         1 => Kept {
-            n,
-            reads: changed_window(reads, n, way),
-            writes,
+            reads: changed_window(kept.reads, kept.n, way),
+            ..kept
         },
         _ => Kept {
-            n,
-            reads,
-            writes: changed_window(writes, n, way),
+            writes: changed_window(kept.writes, kept.n, way),
+            ..kept
         },
     }
 }
@@ -125,19 +105,23 @@ fn changed(n: usize, reads: Window, writes: Window, which: usize) -> Kept
 
 fn kept_by(how: usize, of_reads: usize, of_writes: usize) -> Kept {
     let n = size_by(how / 64);
-    let reads = window_by(n, how / 4 % 4 != 0, of_reads);
-    let writes = window_by(n, how / 16 % 4 != 0, of_writes);
+    let kept = Kept {
+        n,
+        reads: window_by(n, how / 4 % 4 != 0, of_reads),
+        writes: window_by(n, how / 16 % 4 != 0, of_writes),
+    };
     if how % 4 == 3 {
-        return changed(n, reads, writes, how / 384 % 24);
+        return changed(kept, how / 384 % 24);
     }
-    Kept { n, reads, writes }
+    kept
 }
 
 // The call with kept numbers, of which in one of four something was changed, or in one of four without.
 pub fn timed_call(call: Call, how: usize, of_reads: usize, of_writes: usize) -> Call {
-    let kept = kept_by(how, of_reads, of_writes);
-    let mut timed = call;
-    timed.measured = how % 4 != 0;
-    timed.kept = kept;
-    timed
+    let kept = if how % 4 == 0 {
+        None
+    } else {
+        Some(kept_by(how, of_reads, of_writes))
+    };
+    Call { kept, ..call }
 }

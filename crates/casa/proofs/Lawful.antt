@@ -1,12 +1,12 @@
 -- CASA's pools are a lawful policy, with `Sound` for a good state: a sound pool holds a good state, the pool made of one is sound and holds it, and CASA's
 -- states are framed. So a pool that was opened and used through its calls is sound, and model's theorem on last written bytes speaks of it.
 -- Assumes nothing.
+use Rattle.std.specs.Prelude.{Ok}
 use mathlib.Core.Path.{◌≡◌, sym, subst}
 use Rattle.model.specs.Numbers.{Numbers, Limits, in_limits, meant}
 use Rattle.model.specs.Request.{states}
 use Rattle.model.specs.Refusals.{open_rows, open_verdict}
-use Rattle.model.specs.declared.Verdict.{Verdict}
-use Rattle.model.specs.declared.Verdict.TheVariants.{Fine}
+use Rattle.model.specs.Words.{Verdict}
 use Rattle.model.proofs.Limits.{in_limits-limits}
 use Rattle.model.proofs.Refusals.{not-false, first-clear}
 use Rattle.model.proofs.Good.{opened-good, opened-blank}
@@ -30,7 +30,7 @@ pools-lawful = framed-lawful pools pools-framed
 
 -- ---- an accepted open
 
-module _ (n : Numbers) (accepted : open_verdict n ≡ Fine) where
+module _ (n : Numbers) (accepted : open_verdict n ≡ Ok tt) where
   pub open-limits : Limits (meant n)
   unfolding open_verdict
   open-limits = in_limits-limits (meant n) (not-false (in_limits (meant n)) (first-clear (open_rows n) accepted).0)

@@ -7,80 +7,60 @@ ghost use Rattle.std.specs.Prelude.{◌≡◌, []};
 ghost use Rattle.model.specs.Words.{costing_says};
 ghost use Rattle.model.specs.Times.{unmeasured, measured};
 ghost use Rattle.model.specs.Run as run;
-ghost use Rattle.model.specs.Numbers.{numbers};
+ghost use Rattle.model.specs.Numbers.{numbers_held};
 ghost use Rattle.casa.specs.Calls.{open_by, open_after, open_left, after, served_left, flushed_left, dropped_left};
 
-use model::{
-    Answer, Costing, Dropping, Flushing, Kept, Opening, Refusal, USUAL_READ, USUAL_WRITE, Verdict,
-};
+use model::{Access, Kept, Numbers, Refusal, USUAL_READ, USUAL_WRITE};
 use pool::Pool;
 
+// What a call hands back: the pool, and its answer or why it is refused. Refused, it is the pool that was handed in.
 #[derive(Clone, Copy)]
-pub struct Opened {
+pub struct Done<T> {
     pub pool: Pool,
-    pub answer: Opening,
+    pub answer: Result<T, Refusal>,
 }
 
-#[derive(Clone, Copy)]
-pub struct Served {
-    pub pool: Pool,
-    pub answer: Answer,
-}
+// Of opening and of a drop: there is no further answer.
+pub type Opened = Done<()>;
 
-#[derive(Clone, Copy)]
-pub struct Flushed {
-    pub pool: Pool,
-    pub answer: Flushing,
-}
+pub type Dropped = Done<()>;
 
-#[derive(Clone, Copy)]
-pub struct Dropped {
-    pub pool: Pool,
-    pub answer: Dropping,
-}
+// Of a read or a write.
+pub type Served = Done<Access>;
+
+// Of a flush: how many pages it wrote.
+pub type Flushed = Done<usize>;
 
 // ---- open
 
 // With costs that are meant as they stand.
-fn open_with(
-    frames: usize,
-    page_bytes: usize,
-    pages: usize,
-    read_cost: u64,
-    write_cost: u64,
-) -> Opened
-    ensures { open_left result ≡ open_by (numbers frames page_bytes pages read_cost write_cost) }
+fn open_with(numbers: Numbers) -> Opened
+    ensures { open_left result ≡ open_by (numbers_held numbers) }
 {
-    if !model::in_limits(frames, page_bytes, pages, read_cost, write_cost) {
-        let none = pool::fresh(0, 0, 0, 0, 0);
-        return Opened {
-            pool: none,
-            answer: Opening::Refused(Refusal::OutOfLimits),
+    if !numbers.in_limits() {
+        return Done {
+            pool: Pool::fresh(Numbers::default()),
+            answer: Err(Refusal::OutOfLimits),
         };
     }
-    let pool = pool::fresh(frames, page_bytes, pages, read_cost, write_cost);
-    Opened {
-        pool,
-        answer: Opening::Opened,
+    Done {
+        pool: Pool::fresh(numbers),
+        answer: Ok(()),
     }
 }
 
-// Opens a pool of `frames` frames over a store of `pages` pages of `page_bytes` bytes. Both costs 0 mean the usual drive. Refused: 1.
-pub fn open(
-    frames: usize,
-    page_bytes: usize,
-    pages: usize,
-    read_cost: u64,
-    write_cost: u64,
-) -> Opened
-    ensures { open_left result ≡ open_after (numbers frames page_bytes pages read_cost write_cost) }
+// Opens a pool of so many frames over a store of so many pages. Both costs 0 mean the usual drive. Refused: 1.
+pub fn open(numbers: Numbers) -> Opened
+    ensures { open_left result ≡ open_after (numbers_held numbers) }
 {
-    if read_cost == 0 {
-        if write_cost == 0 {
-            return open_with(frames, page_bytes, pages, USUAL_READ, USUAL_WRITE);
-        }
+    if numbers.read_cost == 0 && numbers.write_cost == 0 {
+        return open_with(Numbers {
+            read_cost: USUAL_READ,
+            write_cost: USUAL_WRITE,
+            ..numbers
+        });
     }
-    open_with(frames, page_bytes, pages, read_cost, write_cost)
+    open_with(numbers)
 }
 
 // ---- read
@@ -112,16 +92,14 @@ pub fn read_page_measured(
     ensures { served_left result frames.new store.new out.new
         ≡ after pool frames.old store.old (run.read (measured kept) page out.old) }
 {
-    let size = pool.page_bytes;
+    let size = pool.numbers.page_bytes;
     let fit = out.len() == size;
-    let sound = pool::sound(pool);
+    let sound = pool.is_sound();
     let timed = costs::kept_fits(kept);
     let verdict = serve::request_verdict(
         sound,
         timed,
-        pool.frames,
-        size,
-        pool.pages,
+        pool.numbers,
         pool.served,
         frames.len(),
         store.len(),
@@ -129,15 +107,16 @@ pub fn read_page_measured(
         fit,
     );
     match verdict {
-        Verdict::Refused(why) => Served {
+        Err(why) => Done {
             pool,
-            answer: Answer::Refused(why),
+            answer: Err(why),
         },
-        Verdict::Fine => {
+        Ok(()) => {
             let read = fine::read(pool, kept, page, frames, store, out);
-            let next = read.pool;
-            let answer = read.answer;
-            Served { pool: next, answer }
+            Done {
+                pool: read.pool,
+                answer: read.answer,
+            }
         }
     }
 }
@@ -173,16 +152,14 @@ pub fn write_page_measured(
     ensures { served_left result frames.new store.new []
         ≡ after pool frames.old store.old (run.write (measured kept) page start bytes.now) }
 {
-    let size = pool.page_bytes;
+    let size = pool.numbers.page_bytes;
     let fit = serve::stretch_fits(size, start, bytes.len());
-    let sound = pool::sound(pool);
+    let sound = pool.is_sound();
     let timed = costs::kept_fits(kept);
     let verdict = serve::request_verdict(
         sound,
         timed,
-        pool.frames,
-        size,
-        pool.pages,
+        pool.numbers,
         pool.served,
         frames.len(),
         store.len(),
@@ -190,15 +167,16 @@ pub fn write_page_measured(
         fit,
     );
     match verdict {
-        Verdict::Refused(why) => Served {
+        Err(why) => Done {
             pool,
-            answer: Answer::Refused(why),
+            answer: Err(why),
         },
-        Verdict::Fine => {
+        Ok(()) => {
             let wrote = fine::write(pool, kept, page, start, bytes, frames, store);
-            let next = wrote.pool;
-            let answer = wrote.answer;
-            Served { pool: next, answer }
+            Done {
+                pool: wrote.pool,
+                answer: wrote.answer,
+            }
         }
     }
 }
@@ -210,13 +188,11 @@ pub fn write_page_measured(
 pub fn flush(pool: Pool, frames: &[u8], store: &mut [u8]) -> Flushed
     ensures { flushed_left result frames.now store.new ≡ after pool frames.now store.old run.flush }
 {
-    let sound = pool::sound(pool);
+    let sound = pool.is_sound();
     let verdict = serve::request_verdict(
         sound,
         true,
-        pool.frames,
-        pool.page_bytes,
-        pool.pages,
+        pool.numbers,
         pool.served,
         frames.len(),
         store.len(),
@@ -224,17 +200,14 @@ pub fn flush(pool: Pool, frames: &[u8], store: &mut [u8]) -> Flushed
         true,
     );
     match verdict {
-        Verdict::Refused(why) => Flushed {
+        Err(why) => Done {
             pool,
-            answer: Flushing::Refused(why),
+            answer: Err(why),
         },
-        Verdict::Fine => {
-            let next = fine::flush(pool, frames, store);
-            Flushed {
-                pool: next,
-                answer: Flushing::Wrote(pool.dirty_len),
-            }
-        }
+        Ok(()) => Done {
+            pool: fine::flush(pool, frames, store),
+            answer: Ok(pool.lists.dirty.len),
+        },
     }
 }
 
@@ -245,13 +218,11 @@ pub fn flush(pool: Pool, frames: &[u8], store: &mut [u8]) -> Flushed
 pub fn drop_page(pool: Pool, page: usize, frames: &[u8], store: &mut [u8]) -> Dropped
     ensures { dropped_left result frames.now store.new ≡ after pool frames.now store.old (run.drop page) }
 {
-    let sound = pool::sound(pool);
+    let sound = pool.is_sound();
     let verdict = serve::request_verdict(
         sound,
         true,
-        pool.frames,
-        pool.page_bytes,
-        pool.pages,
+        pool.numbers,
         pool.served,
         frames.len(),
         store.len(),
@@ -259,28 +230,25 @@ pub fn drop_page(pool: Pool, page: usize, frames: &[u8], store: &mut [u8]) -> Dr
         true,
     );
     match verdict {
-        Verdict::Refused(why) => Dropped {
+        Err(why) => Done {
             pool,
-            answer: Dropping::Refused(why),
+            answer: Err(why),
         },
-        Verdict::Fine => {
-            let next = fine::drop(pool, page, frames, store);
-            Dropped {
-                pool: next,
-                answer: Dropping::Dropped,
-            }
-        }
+        Ok(()) => Done {
+            pool: fine::drop(pool, page, frames, store),
+            answer: Ok(()),
+        },
     }
 }
 
 // ---- total
 
 // The cost of all physical reads and writes: here alone they meet. Refused: 2.
-pub fn total(pool: Pool) -> Costing
+pub fn total(pool: Pool) -> Result<u64, Refusal>
     ensures { costing_says result ≡ (after pool [] [] run.total).said }
 {
-    if !pool::sound(pool) {
-        return Costing::Refused(Refusal::BrokenPool);
+    if !pool.is_sound() {
+        return Err(Refusal::BrokenPool);
     }
-    Costing::Total(pool.reads.0 * pool.read_cost + pool.writes.0 * pool.write_cost)
+    Ok(pool.reads.0 * pool.numbers.read_cost + pool.writes.0 * pool.numbers.write_cost)
 }

@@ -4,7 +4,7 @@
 --     knows-more, knows-met, knows-new    marks that know every earlier page: one page more that leaves a mark or meets one, and a page that they do not know
 -- Assumes nothing.
 use mathlib.Core.Path.{◌≡◌, refl, sym, ◌∙◌}
-use mathlib.Core.Bool.{true, false, not, ◌||◌, or-true, and-true, and-false, and-eq-true_iff}
+use mathlib.Core.Bool.{Bool, true, false, false≢true, not, ◌||◌, or-true, and-true, and-false, and-eq-true_iff}
 use mathlib.Core.Logic.{◌≢◌, dite, ⊎_elim}
 use mathlib.Core.List.{List}
 use Prim.Native.Nat.{ℕ, zero, suc, ◌+◌, ◌%◌, ◌<◌}
@@ -22,8 +22,8 @@ use Rattle.order.proofs.Search.{has_before-nowhere, has_before-none}
 use Rattle.checks.specs.Tests.{nonzero_apart}
 
 -- 2,048 marks know the first n pages: each has a mark at its remainder
-abbrev pub Knows : List ℕ → List ℕ → ℕ → Type 0
-Knows marks page n = (length marks ≡ 2048) × ((j : ℕ) → j < n → get_or marks (get_or page j 0 % 2048) 0 ≢ 0)
+abbrev pub Knows : List Bool → List ℕ → ℕ → Type 0
+Knows marks page n = (length marks ≡ 2048) × ((j : ℕ) → j < n → get_or marks (get_or page j 0 % 2048) false ≡ true)
 
 module _ (page : List ℕ) where
   -- ---- no page but 0 stands twice
@@ -70,21 +70,22 @@ module _ (page : List ℕ) where
 
   -- ---- marks by remainders
 
-  pub knows-more : (marks : List ℕ) (i : ℕ) → Knows marks page i → Knows (set marks (get_or page i 0 % 2048) 1) page (i + 1)
+  pub knows-more : (marks : List Bool) (i : ℕ) → Knows marks page i → Knows (set marks (get_or page i 0 % 2048) true) page (i + 1)
   knows-more marks i (l, k) =
       let r : ℕ = get_or page i 0 % 2048 in
-      let here : get_or (set marks r 1) r 0 ≡ 1 = get_or-set_same marks r 1 0 (omega arith) in (
-        length-set marks r 1 ∙ l,
+      let here : get_or (set marks r true) r false ≡ true = get_or-set_same marks r true false (omega arith) in (
+        length-set marks r true ∙ l,
         below_more _ i
-            (λ j h z.
+            (λ j h.
             dite (ℕ_discrete (get_or page j 0 % 2048) r)
-            (λ e. omega (arith, rw e at z))
-            (λ d. k j h (sym (get_or-set_other marks r _ 1 0 d) ∙ z)))
-            (λ z. omega arith),
+            (λ e. rw e here)
+            (λ d. get_or-set_other marks r _ true false d ∙ k j h))
+            here,
       )
 
-  pub knows-met : (marks : List ℕ) (i : ℕ) → Knows marks page i → get_or marks (get_or page i 0 % 2048) 0 ≢ 0 → Knows marks page (i + 1)
+  pub knows-met : (marks : List Bool) (i : ℕ) → Knows marks page i → get_or marks (get_or page i 0 % 2048) false ≡ true → Knows marks page (i + 1)
   knows-met marks i (l, k) met = (l, below_more _ i k met)
 
-  pub knows-new : (marks : List ℕ) (i : ℕ) → Knows marks page i → get_or marks (get_or page i 0 % 2048) 0 ≡ 0 → has_before page i (get_or page i 0) ≡ false
-  knows-new marks i (l, k) z = has_before-nowhere page i (get_or page i 0) (λ j h e. k j h (rw e z))
+  pub knows-new : (marks : List Bool) (i : ℕ) → Knows marks page i → get_or marks (get_or page i 0 % 2048) false ≡ false
+      → has_before page i (get_or page i 0) ≡ false
+  knows-new marks i (l, k) z = has_before-nowhere page i (get_or page i 0) (λ j h e. false≢true (sym z ∙ rw e at (k j h)))

@@ -1,23 +1,16 @@
 -- Laws of a test of every element.
 --     every-spoilt, every-kept, every-end    one turn of a loop that keeps in a flag whether all elements so far have passed
---     both-spoilt-first, both-spoilt-second, both-kept, both-end    the same of two lists at once
 --     every-means, every-of    every element passes: place by place
 --     every-front, every-both    the first elements, and the others too
---     tally-more, tally-same    one turn of a loop that counts how often q stands
 -- Assumes nothing.
 use mathlib.Core.Path.{◌≡◌, refl, sym, ◌∙◌}
 use mathlib.Core.Bool.{Bool, true, false, ◌&&◌, and-true, and-false, and-eq-true_iff}
-use mathlib.Core.Logic.{◌≢◌}
 use mathlib.Core.List.{List, [], ◌∷◌}
-use Prim.Native.Nat.{ℕ, zero, suc, ◌+◌, ◌<◌}
+use Prim.Native.Nat.{ℕ, zero, suc, ◌<◌}
 use native.Mathlib.Nat.{le_of_suc-le-suc, not-suc-le-zero}
 use native.Mathlib.Omega.{arith}
 use lib.ListN.{length, get_or, take, drop}
-use borrow.Author.Tests.{eq-eqb, ne_eqb}
-use Rattle.order.specs.Count.{count}
 use Rattle.checks.specs.Tests.{every}
-
--- ---- a test of every element
 
 module _ (t : ℕ → Bool) where
   module _ {xs : List ℕ} (ok all : Bool) where
@@ -29,22 +22,6 @@ module _ (t : ℕ → Bool) where
 
     pub every-end : xs ≡ [] → (ok && every t xs) ≡ all → ok ≡ all
     every-end e k = sym (rw (e, and-true)) ∙ k
-
-  -- the same of two lists at once
-
-  module _ (xs ys : List ℕ) (ok all : Bool) (k : (ok && (every t xs && every t ys)) ≡ all) where
-    pub both-spoilt-first : {x : ℕ} {rest : List ℕ} → xs ≡ x ∷ rest → t x ≡ false → false ≡ all
-    both-spoilt-first e f = sym (rw (e, f, and-false)) ∙ k
-
-    pub both-spoilt-second : {y : ℕ} {more : List ℕ} → ys ≡ y ∷ more → t y ≡ false → false ≡ all
-    both-spoilt-second e f = sym (rw (e, f, and-false, and-false)) ∙ k
-
-    pub both-kept : {x y : ℕ} {rest more : List ℕ} → xs ≡ x ∷ rest → ys ≡ y ∷ more → t x ≡ true → t y ≡ true
-        → (ok && (every t rest && every t more)) ≡ all
-    both-kept e d f g = sym (rw (e, d, f, g)) ∙ k
-
-    pub both-end : xs ≡ [] → ys ≡ [] → ok ≡ all
-    both-end e d = sym (rw (e, d, and-true)) ∙ k
 
   pub every-means : (xs : List ℕ) → every t xs ≡ true → (i : ℕ) → i < length xs → t (get_or xs i 0) ≡ true
   every-means [] e i h = absurd (not-suc-le-zero h)
@@ -66,12 +43,3 @@ module _ (t : ℕ → Bool) where
   every-both (suc n) [] e k = refl
   every-both (suc n) (x ∷ xs) e k =
       let a = (and-eq-true_iff (t x) (every t (take n xs))).0 e in (and-eq-true_iff (t x) (every t xs)).1 (a.0, every-both n xs a.1 k)
-
--- ---- a count of q
-
-module _ {xs : List ℕ} {x : ℕ} {rest : List ℕ} (q n all : ℕ) (e : xs ≡ x ∷ rest) (k : n + count q xs ≡ all) where
-  pub tally-more : x ≡ q → n + 1 + count q rest ≡ all
-  tally-more z = omega (arith, rw (e, eq-eqb x q z) at k)
-
-  pub tally-same : x ≢ q → n + count q rest ≡ all
-  tally-same z = omega (arith, rw (e, ne_eqb x q z) at k)

@@ -16,10 +16,11 @@ use lib.ListN.{length, get_or, take}
 use lib.Seq.{length-take-le, get_or-take}
 use lib.Dec.{eqb, leb, ltb}
 use borrow.Author.Tests.{eqb-true, eq-eqb, ne_eqb, leb-true, le-leb, ltb-true, lt-ltb}
+use Rattle.std.proofs.lemmas.List.{get_or_default}
+use Rattle.std.proofs.lemmas.List.Sums.{AllPass-from_list_all, list_all-from_AllPass}
 use Rattle.order.specs.Count.{count}
 use Rattle.order.proofs.Count.{bit-same, count-cons}
 use Rattle.checks.specs.Tests.{every, every_below}
-use Rattle.checks.proofs.Every.{every-means, every-of}
 
 -- t is true exactly when A holds
 pub record Exact (t : Bool) (A : Type 0) : Type 0 where
@@ -79,12 +80,15 @@ module _ {t : ℕ → Bool} {A : ℕ → Type 0} (d : (f : ℕ) → Exact (t f) 
       (λ y. (y x (omega (arith, bit-same x)), λ f h. y f (omega arith)))
       (exact-and (d x) (exact-every xs))
 
-pub exact-places : (t : ℕ → Bool) (xs : List ℕ) (n : ℕ) {A : ℕ → Type 0} → n ≤ length xs → ((i : ℕ) → Exact (t (get_or xs i 0)) (A i))
-    → Exact (every t (take n xs)) ((i : ℕ) → i < n → A i)
-exact-places t xs n l d =
+pub exact-places : {B : Type 0} (t : B → Bool) (xs : List B) (d : B) (n : ℕ) {A : ℕ → Type 0} → n ≤ length xs
+    → ((i : ℕ) → Exact (t (get_or xs i d)) (A i)) → Exact (every t (take n xs)) ((i : ℕ) → i < n → A i)
+exact-places t xs d n l a =
+    let long : length (take n xs) ≡ n = length-take-le n xs l in
     record {
-      means = λ e i h. (d i).means (rw (get_or-take n xs i 0 h) at (every-means t (take n xs) e i (omega (arith, length-take-le n xs l))));
+      means = λ e i h. (a i).means (rw (get_or-take n xs i d h) at (AllPass-from_list_all t (take n xs) e i d (omega arith)));
       test = λ x.
-          every-of t (take n xs)
-          (λ i h. let k : i < n = omega (arith, length-take-le n xs l) in rw (get_or-take n xs i 0 k) ((d i).test (x i k)));
+          list_all-from_AllPass t (take n xs)
+          (λ i o h.
+          let k : i < n = omega arith in
+          rw (get_or_default (take n xs) i o d h, get_or-take n xs i d k) ((a i).test (x i k)));
     }

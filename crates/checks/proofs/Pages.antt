@@ -2,19 +2,22 @@
 -- empty ones; no other page stands twice.
 --     PagesTest, pages-test, test-pages    what the test finds out, and that right pages are those that pass it
 --     low-front, low-all    pages that are low, among the first b or among all, where the others are 0
---     empty-below    the numbers of the list of empty frames are frames
+--     empty-below    the empty frames have a place
+--     pages-decides    the answer of the four tests
 -- Assumes nothing.
 use mathlib.Core.Path.{◌≡◌, refl, sym, ap, ◌∙◌}
 use mathlib.Core.Logic.{◌≢◌, dite}
-use mathlib.Core.Bool.{Bool, true, false, and-eq-true_iff, cond as if-else}
+use mathlib.Core.Bool.{Bool, true, false, ◌&&◌, and-eq-true_iff, cond as if-else}
 use mathlib.Core.List.{List, [], ◌∷◌}
 use Prim.Native.Nat.{ℕ, zero, suc, ◌+◌, ◌-◌, ◌≤◌, ◌<◌}
 use native.Mathlib.Decide.{dec_lt, ℕ_discrete}
 use native.Mathlib.Omega.{arith}
 use lib.ListN.{length, get_or, take, drop}
-use lib.Seq.{take-suc, take_all, get_or-take, length-take-le}
-use lib.Dec.{eqb}
+use lib.Seq.{take-suc, take_all}
+use lib.Dec.{eqb, leb}
 use borrow.Author.Tests.{eqb-true, eq-eqb, ne_eqb, le-leb}
+use Rattle.std.specs.List.{All}
+use Rattle.std.proofs.lemmas.List.Elements.{All-from_get_or}
 use Rattle.order.specs.Count.{bit, count}
 use Rattle.order.specs.Lists.{down_from}
 use Rattle.order.specs.Places.{places}
@@ -23,8 +26,8 @@ use Rattle.checks.specs.Tests.{every, is_zero, is_at_most, blank_all, nonzero_ap
 use Rattle.checks.proofs.Every.{every-front, every-both}
 use Rattle.checks.proofs.Apart.{nonzero_apart-means, nonzero_apart-of}
 use Rattle.checks.proofs.Counting.{count-cons-le, count-more, keep, keep-in, keep-out}
-use Rattle.checks.proofs.Decides.{decides-test, decides-iff}
-use Rattle.checks.proofs.Exact.{Exact, exact-eqb, exact-leb, exact-every, exact-places}
+use Rattle.checks.proofs.Decides.{decides-of}
+use Rattle.checks.proofs.Exact.{Exact, exact-iff, exact-self, exact-and, exact-eqb, exact-leb, exact-every, exact-places}
 
 -- ---- the frames with page 0
 
@@ -63,7 +66,7 @@ pub record PagesTest (b N : ℕ) (E page : List ℕ) : Type 0 where
 
 module _ (b N : ℕ) (E page : List ℕ) (some : 1 ≤ N) (long : b ≤ length page) where
   low-exact : Exact (every (is_at_most (N - 1)) (take b page)) ((f : ℕ) → f < b → get_or page f 0 ≤ N - 1)
-  low-exact = exact-places (is_at_most (N - 1)) page b long (λ f. exact-leb (get_or page f 0) (N - 1))
+  low-exact = exact-places (is_at_most (N - 1)) page 0 b long (λ f. exact-leb (get_or page f 0) (N - 1))
 
   blank-exact : Exact (blank_all page E) ((f : ℕ) → 1 ≤ count f E → get_or page f 0 ≡ 0)
   blank-exact = exact-every (λ f. exact-eqb (get_or page f 0) 0) E
@@ -126,9 +129,8 @@ module _ (b N : ℕ) (E page : List ℕ) (some : 1 ≤ N) (long : b ≤ length p
                 (omega (arith, bit-other g f (λ e. n (sym e))))),
           )
 
-pub empty-below : (b : ℕ) (e : List ℕ) (en : ℕ) → en ≤ length e → EmptyRight b (take en e) → (k : ℕ) → k < en → get_or e k 0 < b
-empty-below b e en l right k h =
-    rw (get_or-take en e k 0 h) at (count-below b (take en e) right.others k (omega (arith, length-take-le en e l)))
+pub empty-below : (b : ℕ) (E : List ℕ) → b ≤ places → EmptyRight b E → All (λ f. f < places) E
+empty-below b E fits right = All-from_get_or (λ f. f < places) E 0 (λ k h. omega (arith, count-below b E right.others k h))
 
 -- ---- low pages
 
@@ -146,11 +148,19 @@ module _ (b top : ℕ) (page : List ℕ) (l : length page ≡ places) where
           let zero_is : x ≡ 0 = eqb-true x 0 a.0 in
           (and-eq-true_iff (is_at_most top x) (every (is_at_most top) xs)).1 (le-leb x top (omega arith), zeros-low xs a.1)
 
-pub pages-last : (b N : ℕ) (E page : List ℕ) → 1 ≤ N → b ≤ length page → EmptyRight b E
-    → every (is_at_most (N - 1)) (take b page) ≡ true → blank_all page E ≡ true → count 0 (take b page) ≤ length E + 1
-    → (t : Bool) → t ≡ nonzero_apart page b → Decides t (PagesRight b N E page)
-pages-last b N E page some long right low blank few t e =
-    decides-iff t
-    (λ a. test-pages b N E page some long right (record { low = low; blank = blank; few = few; apart = a }))
-    (λ p. (pages-test b N E page some long p).apart)
-    (decides-test t _ e)
+-- the answer, where it is that of the four tests
+pub pages-decides : (b N : ℕ) (E page : List ℕ) → 1 ≤ N → b ≤ places → length page ≡ places → EmptyRight b E
+    → every is_zero (drop b page) ≡ true → (t : Bool)
+    → t ≡ (every (is_at_most (N - 1)) (take places page) && blank_all page E && leb (count 0 (take b page)) (length E + 1) && nonzero_apart page b)
+    → Decides t (PagesRight b N E page)
+pages-decides b N E page some fits l right zeros t e =
+    let long : b ≤ length page = omega arith in
+    rw e
+    (decides-of _
+    (exact-iff
+    (λ x.
+    test-pages b N E page some long right
+    (record { low = low-front b (N - 1) page l x.0.0.0; blank = x.0.0.1; few = omega (arith, x.0.1); apart = x.1 }))
+    (λ p.
+    let q = pages-test b N E page some long p in (((low-all b (N - 1) page l zeros q.low, q.blank), omega (arith, q.few)), q.apart))
+    (exact-and (exact-and (exact-and (exact-self _) (exact-self _)) (exact-leb _ _)) (exact-self _))))

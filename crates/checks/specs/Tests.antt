@@ -1,6 +1,7 @@
 -- Tests of the elements of a list, and what the tests of lists of frames and of their pages find out.
 -- Assumes nothing.
-use Rattle.std.specs.Prelude.{◌≡◌, Bool, true, false, not, ◌&&◌, ◌||◌, List, [], ◌∷◌, ℕ, zero, suc, ◌+◌, ◌≤◌, ◌<◌, eqb, leb, get_or, set}
+use Rattle.std.specs.Prelude.{◌≡◌, Bool, true, false, not, ◌&&◌, ◌||◌, List, ℕ, zero, suc, ◌+◌, ◌≤◌, ◌<◌, eqb, leb, get_or, set}
+use Rattle.std.specs.List.{list_all, fold}
 use Rattle.order.specs.Count.{count}
 use Rattle.order.specs.Find.{has_before}
 
@@ -12,9 +13,8 @@ Decides false A = A → ⊥
 -- ---- tests of the elements of a list
 
 -- every element passes
-abbrev pub every : (ℕ → Bool) → List ℕ → Bool
-every t [] = true
-every t (x ∷ xs) = t x && every t xs
+abbrev pub every : {A : Type 0} → (A → Bool) → List A → Bool
+every t xs = list_all t xs
 
 -- every number below n passes
 abbrev pub every_below : ℕ → (ℕ → Bool) → Bool
@@ -24,16 +24,12 @@ every_below (suc n) t = t n && every_below n t
 abbrev pub is_zero : ℕ → Bool
 is_zero x = eqb x 0
 
-abbrev pub is_some : ℕ → Bool
-is_some x = not (eqb x 0)
-
 abbrev pub is_at_most : ℕ → ℕ → Bool
 is_at_most top x = leb x top
 
--- 1 at each place that the list names
-abbrev pub marked : List ℕ → List ℕ → List ℕ
-marked [] marks = marks
-marked (f ∷ fs) marks = marked fs (set marks f 1)
+-- a mark at each place that the list names
+abbrev pub marked : List ℕ → List Bool → List Bool
+marked fs marks = fold (λ m f. set m f true) marks fs
 
 -- every frame of a list has page 0
 abbrev pub blank_all : List ℕ → List ℕ → Bool

@@ -1,17 +1,18 @@
 -- The three demands, as theorems about the public calls; each proof is a citation. What a call leaves of a pool and of the bytes lent to it, `left pools`, is
 -- what its promise states, whole (`casa`'s specs/Calls.antt, `model`'s specs/Run.antt); the other words stand in specs/World.antt here and in `model`'s specs.
 --
--- Where the hypotheses come from: `open_verdict n ≡ Fine` says that the open was accepted; `verdict_of .. ≡ Fine` that this very call is served; that the
+-- Where the hypotheses come from: `open_verdict n ≡ Ok tt` says that the open was accepted; `verdict_of .. ≡ Ok tt` that this very call is served; that the
 -- page is in no frame says that the call is a fault; that no frame is empty and that the clean list is further from the exact target are the third demand's own
 -- "whenever"; that a frame has the page is a drop's "if it was resident". Nothing is asked of a pool that was opened and used through its calls: `used-sound`
 -- gives it.
 --
--- Of times: `kept_fits k ≡ true` and `both_full k ≡ false` say that kept numbers are not refused, and not of two full windows; `start_verdict .. ≡ Fine` that
+-- Of times: `kept_fits k ≡ true` and `both_full k ≡ false` say that kept numbers are not refused, and not of two full windows; `start_verdict .. ≡ Ok tt` that
 -- the windows were started; that times are at most `most_time` is that they have 16 bits; `AsOpened` that no call of a recorded run was served with two full
 -- windows.
 --
--- Then the writer of trace files. `begin_verdict .. ≡ Fine` says that the trace was begun; `AllBelow 256` that a file is bytes; `room_for .. ≡ true` that
+-- Then the writer of trace files. `begin_verdict .. ≡ Ok tt` says that the trace was begun; `AllBelow 256` that a file is bytes; `room_for .. ≡ true` that
 -- there was room for all records; the lengths that memory lent to a run of the trace is of the right sizes. Assumes nothing.
+use Rattle.std.specs.Prelude.{None, Ok, Err}
 use mathlib.Core.Path.{◌≡◌, refl, ap, ◌∙◌}
 use mathlib.Core.Bool.{true, false, not, cond as if-else}
 use mathlib.Core.List.{List, [], ◌∷◌, ◌++◌}
@@ -31,10 +32,8 @@ use Rattle.model.specs.Request.{locate}
 use Rattle.model.specs.Moves.{laid}
 use Rattle.model.specs.Run.{Call, read, write, drop, output_of, times_of, World, further_rows, verdict_of, costs_in, left, after, after_all, history, gathered}
 use Rattle.model.specs.Table.{worked, expected}
-use Rattle.model.specs.declared.Place.TheVariants.{Absent}
 use Rattle.model.specs.declared.Refusal.{Refusal}
 use Rattle.model.specs.declared.Refusal.TheVariants.{BrokenPool, OutOfLimits, ZeroTime, BrokenWindows}
-use Rattle.model.specs.declared.Verdict.TheVariants.{Fine, Refused as Refused-by}
 use Rattle.model.specs.declared.Kept.{Kept}
 use Rattle.model.proofs.Times.{unfilled-opened, fresh-kept, read-opened, write-opened}
 use Rattle.model.proofs.Table as proved
@@ -45,9 +44,7 @@ use Rattle.casa.proofs.Lawful.{open-sound}
 use Rattle.trace.specs.Format.{numbers_in, recorded_on, header_of, record_in, start_of, record_at, checked_of, notes_in, records_in, place_after_moves}
 use Rattle.trace.specs.Encode.{trace_bytes}
 use Rattle.trace.specs.declared.Trailer.{Trailer}
-use Rattle.trace.specs.declared.Checked.TheVariants.{Refused, Fine as Read-fine}
 use Rattle.trace.specs.declared.Record.{Record}
-use Rattle.trace.specs.declared.Next.TheVariants.{End}
 use Rattle.trace.proofs.Reading.{refused-none, record_at-in, refused-yields-none}
 use Rattle.recorder.specs.Words.{refusal_says as recorder_says}
 use Rattle.recorder.specs.Calls.{zero_recorder, room_for, begin_rows, add_rows, close_rows, begin_verdict, add_verdict, close_verdict, begin_after, add_after}
@@ -107,26 +104,26 @@ module _ (s : List ℕ) (y : Refusal) where
   demand-1-check = traces.check-exactly s y
 
   -- a reader over bytes that 7 or 1 refuses finds no record at any place
-  pub demand-1-by-hand : header_of s ≡ Refused y → (place : ℕ) → record_at s place ≡ End
+  pub demand-1-by-hand : header_of s ≡ Err y → (place : ℕ) → record_at s place ≡ None
   demand-1-by-hand = refused-none s y
 
   -- one that the library made of a refused trace finds none however often it is moved
-  pub demand-1-reader : checked_of s ≡ Refused y → (moves : ℕ) → record_at s (place_after_moves s moves) ≡ End
+  pub demand-1-reader : checked_of s ≡ Err y → (moves : ℕ) → record_at s (place_after_moves s moves) ≡ None
   demand-1-reader = refused-yields-none s y
 
 -- over other bytes a reader finds at each place the record that its four bytes spell, and none where 8 refuses it
-pub demand-1-record : (s : List ℕ) (t : Trailer) → header_of s ≡ Read-fine t → (place : ℕ) → place < t.records
+pub demand-1-record : (s : List ℕ) (t : Trailer) → header_of s ≡ Ok t → (place : ℕ) → place < t.records
     → record_at s place ≡ record_in s (start_of s t place) t.pages
 demand-1-record = record_at-in
 
 -- a trace that is not refused opens a pool with the numbers on which it was recorded: of costs 0, 0 those of the stored files, not the usual drive's
-pub trace-opens : (s : List ℕ) (t : Trailer) → header_of s ≡ Read-fine t
+pub trace-opens : (s : List ℕ) (t : Trailer) → header_of s ≡ Ok t
     → open_after (recorded_on (numbers_in t)) ≡ record { pool = pool_of (opened_state (recorded_on (numbers_in t))); said = said_opened }
 trace-opens = traces.header-opens
 
 -- ---- a pool that was opened and used only through its calls, refused ones among them
 
-module _ (n : Numbers) (accepted : open_verdict n ≡ Fine) (frames store : List ℕ) (cs : List Call) where
+module _ (n : Numbers) (accepted : open_verdict n ≡ Ok tt) (frames store : List ℕ) (cs : List Call) where
   abbrev pub used : World Pool
   used = after_all pools (opened n frames store) cs
 
@@ -137,29 +134,29 @@ module _ (n : Numbers) (accepted : open_verdict n ≡ Fine) (frames store : List
   -- ---- demand 2: a call that is served leaves the state, the answer and the bytes of Algorithm 1 on the state before it, with the costs in force,
   -- whatever kept numbers it takes
 
-  pub demand-2-follows : (c : Call) → verdict_of pools used c ≡ Fine → Followed (costs_in pools used (times_of c)) (state_of used.state) used.memory c
+  pub demand-2-follows : (c : Call) → verdict_of pools used c ≡ Ok tt → Followed (costs_in pools used (times_of c)) (state_of used.state) used.memory c
       (left pools used c)
   demand-2-follows = call-follows used used-sound
 
   -- and a read that is served returns the page as the store first had it with all served writes laid over it in order, a drop being a write of P zeros
-  pub demand-2 : (t : Times) (page : ℕ) (out : List ℕ) → verdict_of pools used (read t page out) ≡ Fine
+  pub demand-2 : (t : Times) (page : ℕ) (out : List ℕ) → verdict_of pools used (read t page out) ≡ Ok tt
       → (left pools used (read t page out)).out ≡ history pools (opened n frames store) cs (λ p. page_of (meant n).P p store) page
   demand-2 = run-read n accepted frames store cs
 
   -- so a page that is read next behind its drop is zeros
-  pub demand-2-cut : (t : Times) (page : ℕ) (out : List ℕ) → verdict_of pools used (drop page) ≡ Fine
-      → verdict_of pools (after pools used (drop page)) (read t page out) ≡ Fine → (left pools (after pools used (drop page)) (read t page out)).out ≡
+  pub demand-2-cut : (t : Times) (page : ℕ) (out : List ℕ) → verdict_of pools used (drop page) ≡ Ok tt
+      → verdict_of pools (after pools used (drop page)) (read t page out) ≡ Ok tt → (left pools (after pools used (drop page)) (read t page out)).out ≡
       replicate (meant n).P 0
   demand-2-cut = run-cut n accepted frames store cs
 
   -- "its frame leaves C or D and becomes the tail of E"
   pub drop-tail : (page f : ℕ) → 1 ≤ resident (state_of used.state).lists f → page_in (state_of used.state) f ≡ page
-      → verdict_of pools used (drop page) ≡ Fine → (state_of (after pools used (drop page)).state).lists.E ≡ (state_of used.state).lists.E ++ (f ∷ [])
+      → verdict_of pools used (drop page) ≡ Ok tt → (state_of (after pools used (drop page)).state).lists.E ≡ (state_of used.state).lists.E ++ (f ∷ [])
   drop-tail = drop-last used used-sound
 
   -- "so the next fault uses it": a fault takes the tail of E, for no victim, and leaves the others, so of two drops the frame of the later one is used first
-  pub tail-taken : (f : ℕ) (E : List ℕ) → (state_of used.state).lists.E ≡ E ++ (f ∷ []) → (page : ℕ) → locate (state_of used.state) page ≡ Absent
-      → (c : Call) → Asks page c → verdict_of pools used c ≡ Fine → Took page f E (left pools used c)
+  pub tail-taken : (f : ℕ) (E : List ℕ) → (state_of used.state).lists.E ≡ E ++ (f ∷ []) → (page : ℕ) → locate (state_of used.state) page ≡ None
+      → (c : Call) → Asks page c → verdict_of pools used c ≡ Ok tt → Took page f E (left pools used c)
   tail-taken = last-taken used used-sound
 
   -- ---- either list is ordered by last reference, as the paper's section 4.1 wants it
@@ -193,7 +190,7 @@ module _ (n : Numbers) (accepted : open_verdict n ≡ Fine) (frames store : List
 
   -- a full pool whose clean list is further than that from the exact target says, at a fault, the page at the end of the list that the exact target picks
   pub demand-3-victim : length (state_of used.state).lists.E ≡ 0 → FurtherThan (length made) (length (state_of used.state).lists.C) exact
-      → (page : ℕ) → locate (state_of used.state) page ≡ Absent → (c : Call) → Asks page c → verdict_of pools used c ≡ Fine
+      → (page : ℕ) → locate (state_of used.state) page ≡ None → (c : Call) → Asks page c → verdict_of pools used c ≡ Ok tt
       → (left pools used c).said ≡ last_said (state_of used.state) (above_exact (length (state_of used.state).lists.C) exact)
   demand-3-victim = victim-said used used-sound (length made) exact demand-3
 
@@ -241,7 +238,7 @@ pub reported-right : (x : Windows) (r : Report) → windows_right x ≡ true →
 reported-right = report-right
 
 -- from the start of two windows, after any reports, refused ones among them
-module _ (n : ℕ) (reads writes : List ℕ) (started : start_verdict n (length reads) (length writes) ≡ Fine) (rs : List Report) where
+module _ (n : ℕ) (reads writes : List ℕ) (started : start_verdict n (length reads) (length writes) ≡ Ok tt) (rs : List Report) where
   abbrev pub reported : Windows
   reported = after_reports (start_after n reads writes).windows rs
 
@@ -252,7 +249,7 @@ module _ (n : ℕ) (reads writes : List ℕ) (started : start_verdict n (length 
   last-times = reports-last n reads writes started rs
 
   -- so a report on them is refused for a time of 0 alone
-  pub reported-again : (r : Report) → report_verdict reported r ≡ if-else (eqb (time_in r) 0) (Refused-by ZeroTime) Fine
+  pub reported-again : (r : Report) → report_verdict reported r ≡ if-else (eqb (time_in r) 0) (Err ZeroTime) (Ok tt)
   reported-again = used-verdict n reads writes started rs
 
   -- and no serving call that takes their kept numbers says 13, since a time has 16 bits
@@ -291,13 +288,13 @@ module _ (x : Recorder) (buffer : List ℕ) (y : Refusal) where
 
 -- and that of all zeros is refused 1
 pub demand-1-zero-recorder : (r : Record) (m : ℕ)
-    → (add_verdict zero_recorder r m ≡ Refused-by OutOfLimits) × (close_verdict zero_recorder m ≡ Refused-by OutOfLimits)
+    → (add_verdict zero_recorder r m ≡ Err OutOfLimits) × (close_verdict zero_recorder m ≡ Err OutOfLimits)
 demand-1-zero-recorder r m = (recording.zero-add r m, recording.zero-close m)
 
 -- "What is closed, untouched by others, is read back as the same records": whatever records were offered since `begin`, refused ones among them, closing is
 -- not refused; the buffer begins with the trace of those that were kept, which the reader accepts and reads as these records, the notes and the numbers as
 -- given, and every byte behind it is as it was
-module _ (n : Numbers) (notes buffer : List ℕ) (begun : begin_verdict n (length notes) (length buffer) ≡ Fine) (offered : List Record) where
+module _ (n : Numbers) (notes buffer : List ℕ) (begun : begin_verdict n (length notes) (length buffer) ≡ Ok tt) (offered : List Record) where
   abbrev pub begun-with : Tape
   begun-with = tape_of (begin_after n notes buffer)
 
@@ -319,15 +316,15 @@ module _ (n : Numbers) (notes buffer : List ℕ) (begun : begin_verdict n (lengt
   recorded-closes-again = recording.closed-again n notes buffer begun offered
 
 -- "what the reader accepts is written back as the same bytes, notes included, with costs as the file gave them"
-module _ (s : List ℕ) (t : Trailer) (bytes : AllBelow 256 s) (fine : checked_of s ≡ Read-fine t) (buffer : List ℕ) (long : length s ≤ length buffer) where
+module _ (s : List ℕ) (t : Trailer) (bytes : AllBelow 256 s) (fine : checked_of s ≡ Ok t) (buffer : List ℕ) (long : length s ≤ length buffer) where
   pub written-back : let x = after_adds (tape_of (begin_after (numbers_in t) (notes_in s t) buffer)) (records_in s t) in
-      (begin_verdict (numbers_in t) (length (notes_in s t)) (length buffer) ≡ Fine)
+      (begin_verdict (numbers_in t) (length (notes_in s t)) (length buffer) ≡ Ok tt)
       × ClosesAs x s buffer
   written-back = (recording.back-begins s t bytes fine buffer long, recording.back-closed s t bytes fine buffer long)
 
 -- "If recording began at opening, with the numbers the pool holds, a run of the trace gives the same hits, victims, lists, target and counts": any calls
 -- from an accepted open, refused ones among them
-module _ (n : Numbers) (accepted : open_verdict n ≡ Fine) (frames store : List ℕ) (cs : List Call) where
+module _ (n : Numbers) (accepted : open_verdict n ≡ Ok tt) (frames store : List ℕ) (cs : List Call) where
   abbrev pub recorded-in : List Record
   recorded-in = gathered pools (records_of pools) (opened n frames store) cs
 
@@ -347,7 +344,7 @@ module _ (n : Numbers) (accepted : open_verdict n ≡ Fine) (frames store : List
   -- right sizes, from an open with those numbers, shows at each record what the call showed: what it says, and the pool that it leaves; none of them is refused
   pub replayed : AsOpened cs → (frames' store' out : List ℕ) → length frames' ≡ (meant n).b * (meant n).P → length store' ≡ (meant n).N * (meant n).P
       → length out ≡ (meant n).P
-      → (open_verdict (meant n) ≡ Fine)
+      → (open_verdict (meant n) ≡ Ok tt)
       × (gathered pools (shown pools) (opened n frames store) cs ≡ gathered pools (shown pools) (opened (meant n) frames' store') (calls_of out recorded-in))
       × (length (gathered pools (shown pools) (opened (meant n) frames' store') (calls_of out recorded-in)) ≡ length recorded-in)
   replayed u frames' store' out f s o = (
@@ -357,7 +354,7 @@ module _ (n : Numbers) (accepted : open_verdict n ≡ Fine) (frames store : List
   )
 
   -- in a buffer that fills, the records that found room are the first of them, and a run of these shows the first of what the calls showed
-  pub recorded-front : (notes buffer : List ℕ) → begin_verdict (meant n) (length notes) (length buffer) ≡ Fine
+  pub recorded-front : (notes buffer : List ℕ) → begin_verdict (meant n) (length notes) (length buffer) ≡ Ok tt
       → (k : ℕ)
       × (let x = after_recording pools (opened n frames store) cs (tape_of (begin_after (meant n) notes buffer)) in
       let s = trace_bytes notes (take k recorded-in) (meant n) in
@@ -372,7 +369,7 @@ module _ (n : Numbers) (accepted : open_verdict n ≡ Fine) (frames store : List
 
   -- "For a write the record's value is byte 0 of the page after the call", as all served writes left it
   pub recorded-byte : (t : Times) (page start : ℕ) (bytes : List ℕ) → verdict_of pools (after_all pools (opened n frames store) cs)
-      (write t page start bytes) ≡ Fine
+      (write t page start bytes) ≡ Ok tt
       → value_of pools (after_all pools (opened n frames store) cs) t page start bytes
       ≡ get_or (laid page start bytes (history pools (opened n frames store) cs (λ p. page_of (meant n).P p store)) page) 0 0
   recorded-byte = recording.value-last n accepted frames store cs

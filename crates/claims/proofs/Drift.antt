@@ -1,6 +1,7 @@
 -- Demand 3 for runs of the public calls: the pool's target is the start at 0 with the adjustments of the run made in order, so the model's drift theorem
 -- speaks of it; and a fault of a full pool says the victim that the target picks.
 -- Assumes nothing.
+use Rattle.std.specs.Prelude.{Option, None, Ok}
 use mathlib.Core.Path.{◌≡◌, refl, sym, ap, ◌∙◌, subst}
 use mathlib.Core.Bool.{true}
 use mathlib.Core.List.{List, [], ◌∷◌}
@@ -19,9 +20,7 @@ use Rattle.model.specs.Run.{Call, read, write, flush, drop, total, World, verdic
 use Rattle.model.specs.declared.Op.{Op}
 use Rattle.model.specs.declared.Op.TheVariants.{Read, Write}
 use Rattle.model.specs.declared.Place.{Place}
-use Rattle.model.specs.declared.Place.TheVariants.{Absent}
 use Rattle.model.specs.declared.Choice.{Choice}
-use Rattle.model.specs.declared.Verdict.TheVariants.{Fine}
 use Rattle.model.proofs.Drift.{target-near, exact-bounded, victim-same}
 use Rattle.model.proofs.Adjust.{Adjusted, stays, request-adjusted, flush-adjusted, drop-adjusted, adjusted-append}
 use Rattle.model.proofs.Refusals.{call-cases, read-clear, write-clear}
@@ -49,11 +48,11 @@ module _ (x : World Pool) (s : Sound x.state) where
   made-by c = brought_by pools (verdict_of pools x c) (adjusting x c)
 
   -- a refused call makes no adjustment; a served one leaves state t, and makes those that lead to it
-  moved-by : (c : Call) (t : State) → (verdict_of pools x c ≡ Fine → state_of (left pools x c).state ≡ t)
-      → (verdict_of pools x c ≡ Fine → Adjusted before t (adjusting x c))
+  moved-by : (c : Call) (t : State) → (verdict_of pools x c ≡ Ok tt → state_of (left pools x c).state ≡ t)
+      → (verdict_of pools x c ≡ Ok tt → Adjusted before t (adjusting x c))
       → Adjusted before (state_of (after pools x c).state) (made-by c)
   moved-by c t is a =
-      call-cases pools x c (λ l. (verdict_of pools x c ≡ Fine → state_of l.state ≡ t) → Adjusted before (state_of l.state) (made-by c))
+      call-cases pools x c (λ l. (verdict_of pools x c ≡ Ok tt → state_of l.state ≡ t) → Adjusted before (state_of l.state) (made-by c))
       (λ y e at. rw e (stays before before refl refl)) (λ e at. rw e (subst (λ (z : State). Adjusted before z (adjusting x c)) (sym (at e)) (a e))) is
 
   call-moves : (c : Call) → Adjusted before (state_of (after pools x c).state) (made-by c)
@@ -77,7 +76,7 @@ run-moves (c ∷ cs) x s =
 
 -- ---- from an accepted open
 
-module _ (n : Numbers) (accepted : open_verdict n ≡ Fine) (frames store : List ℕ) (cs : List Call) where
+module _ (n : Numbers) (accepted : open_verdict n ≡ Ok tt) (frames store : List ℕ) (cs : List Call) where
   abbrev used : World Pool
   used = after_all pools (opened n frames store) cs
 
@@ -104,7 +103,7 @@ module _ (n : Numbers) (accepted : open_verdict n ≡ Fine) (frames store : List
 
 module _ (x : World Pool) (s : Sound x.state) (k : ℕ) (exact : Exact) (near : Near k x.state.target exact)
     (full : length (state_of x.state).lists.E ≡ 0) (far : FurtherThan k (length (state_of x.state).lists.C) exact)
-    (q : ℕ) (absent : locate (state_of x.state) q ≡ Absent) where
+    (q : ℕ) (absent : locate (state_of x.state) q ≡ None) where
   abbrev state : State
   state = state_of x.state
 
@@ -116,10 +115,10 @@ module _ (x : World Pool) (s : Sound x.state) (k : ℕ) (exact : Exact) (near : 
 
   fault-says : (op : Op) (c : Costs) → answer_says (request op c state q).answer ≡ last_said state (above_exact (length state.lists.C) exact)
   fault-says Read c =
-      ap (λ (p : Place). answer_says (request_at Read c state q p).answer) absent ∙ ap (λ (t : Choice). fault_says (taken state t).victim) chosen-is
+      ap (λ (p : Option Place). answer_says (request_at Read c state q p).answer) absent ∙ ap (λ (t : Choice). fault_says (taken state t).victim) chosen-is
   fault-says Write c =
-      ap (λ (p : Place). answer_says (request_at Write c state q p).answer) absent ∙ ap (λ (t : Choice). fault_says (taken state t).victim) chosen-is
+      ap (λ (p : Option Place). answer_says (request_at Write c state q p).answer) absent ∙ ap (λ (t : Choice). fault_says (taken state t).victim) chosen-is
 
-  pub victim-said : (c : Call) → Asks q c → verdict_of pools x c ≡ Fine → (left pools x c).said ≡ last_said state (above_exact (length state.lists.C) exact)
+  pub victim-said : (c : Call) → Asks q c → verdict_of pools x c ≡ Ok tt → (left pools x c).said ≡ last_said state (above_exact (length state.lists.C) exact)
   victim-said c (reads t out) e = (call-follows x s (read t q out) e).0.1 ∙ fault-says Read (costs_in pools x t)
   victim-said c (writes t start bytes) e = (call-follows x s (write t q start bytes) e).0.1 ∙ fault-says Write (costs_in pools x t)

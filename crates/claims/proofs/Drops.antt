@@ -1,6 +1,7 @@
 -- Pages that are cut. A drop is a write of zeros to the history, so a read that is served then hands out zeros. Where a frame had the page it is the tail of E
 -- then; and a fault takes the tail of E.
 -- Assumes nothing.
+use Rattle.std.specs.Prelude.{None, Ok}
 use mathlib.Core.Path.{◌≡◌, sym, ap, ◌∙◌, subst}
 use mathlib.Core.List.{List, [], ◌∷◌, ◌++◌}
 use Prim.Native.Nat.{ℕ, ◌≤◌}
@@ -15,8 +16,6 @@ use Rattle.model.specs.Request.{locate, request}
 use Rattle.model.specs.Run.{Call, read, write, drop, World, Left, verdict_of, costs_in, left, after, after_all}
 use Rattle.model.specs.declared.Op.{Op}
 use Rattle.model.specs.declared.Op.TheVariants.{Read, Write}
-use Rattle.model.specs.declared.Place.TheVariants.{Absent}
-use Rattle.model.specs.declared.Verdict.TheVariants.{Fine}
 use Rattle.model.proofs.LastWritten.{drop-zeros}
 use Rattle.model.proofs.Reuse.{Takes, tail-taken, drop-tail}
 use Rattle.model.proofs.Steps.{Whole}
@@ -28,11 +27,12 @@ use Rattle.claims.specs.World.{opened, Requested, Asks, reads, writes, Took}
 use Rattle.claims.proofs.Runs.{call-follows, run-drop-right}
 use Rattle.claims.proofs.Drift.{run-numbers}
 
-module _ (n : Numbers) (accepted : open_verdict n ≡ Fine) (frames store : List ℕ) (cs : List Call) where
+module _ (n : Numbers) (accepted : open_verdict n ≡ Ok tt) (frames store : List ℕ) (cs : List Call) where
   abbrev used : World Pool
   used = after_all pools (opened n frames store) cs
 
-  pub run-cut : (t : Times) (q : ℕ) (out : List ℕ) → verdict_of pools used (drop q) ≡ Fine → verdict_of pools (after pools used (drop q)) (read t q out) ≡ Fine
+  pub run-cut : (t : Times) (q : ℕ) (out : List ℕ)
+      → verdict_of pools used (drop q) ≡ Ok tt → verdict_of pools (after pools used (drop q)) (read t q out) ≡ Ok tt
       → (left pools (after pools used (drop q)) (read t q out)).out ≡ replicate (meant n).P 0
   run-cut t q out d e =
       drop-zeros pools pools-lawful used _ (run-drop-right n accepted frames store cs q d) t q out d e
@@ -45,7 +45,7 @@ module _ (x : World Pool) (s : Sound x.state) where
   whole : Whole state
   whole = record { good = s.good; blank = s.blank }
 
-  pub drop-last : (q f : ℕ) → 1 ≤ resident state.lists f → page_in state f ≡ q → verdict_of pools x (drop q) ≡ Fine
+  pub drop-last : (q f : ℕ) → 1 ≤ resident state.lists f → page_in state f ≡ q → verdict_of pools x (drop q) ≡ Ok tt
       → (state_of (after pools x (drop q)).state).lists.E ≡ state.lists.E ++ (f ∷ [])
   drop-last q f here has d = ap (λ (t : State). t.lists.E) (call-follows x s (drop q) d).0 ∙ drop-tail state whole q f here has
 
@@ -58,8 +58,8 @@ module _ (x : World Pool) (s : Sound x.state) where
     ap (λ (t : State). t.lists.E) a.0 ∙ r.rest,
   )
 
-  pub last-taken : (f : ℕ) (E : List ℕ) → state.lists.E ≡ E ++ (f ∷ []) → (q : ℕ) → locate state q ≡ Absent
-      → (c : Call) → Asks q c → verdict_of pools x c ≡ Fine → Took q f E (left pools x c)
+  pub last-taken : (f : ℕ) (E : List ℕ) → state.lists.E ≡ E ++ (f ∷ []) → (q : ℕ) → locate state q ≡ None
+      → (c : Call) → Asks q c → verdict_of pools x c ≡ Ok tt → Took q f E (left pools x c)
   last-taken f E e q a c (reads t out) v =
       let k = costs_in pools x t in
       took Read k q f E (left pools x (read t q out)) (call-follows x s (read t q out) v).0 (tail-taken state whole Read k q f E e a)

@@ -1,4 +1,5 @@
 -- Opening is refused exactly when a number is out of its limits, and then gives the pool of all zeros, which is broken. Assumes nothing.
+use Rattle.std.specs.Prelude.{Ok}
 use mathlib.Core.Path.{◌≡◌, refl, ap}
 use mathlib.Core.Bool.{Bool, true, false, not}
 use Prim.Native.Nat.{ℕ}
@@ -7,7 +8,6 @@ use Rattle.model.specs.Numbers.{Numbers, Limits, in_limits, meant}
 use Rattle.model.specs.Words.{refusal_says}
 use Rattle.model.specs.Refusals.{verdict_by, open_verdict}
 use Rattle.model.specs.declared.Refusal.TheVariants.{OutOfLimits}
-use Rattle.model.specs.declared.Verdict.TheVariants.{Fine}
 use Rattle.model.proofs.Limits.{in_limits-limits, limits-in_limits}
 use Rattle.pool.specs.Pool.{Sound}
 use Rattle.casa.specs.Calls.{OpenLeft, zero_pool, open_if, open_after}
@@ -16,7 +16,7 @@ pub zero-broken : Sound zero_pool → ⊥
 zero-broken s = omega (arith, s.good.limits.b_low)
 
 module _ (n : Numbers) where
-  open-by : (t : Bool) → in_limits (meant n) ≡ t → open_after n ≡ open_if (verdict_by (not t) OutOfLimits Fine) (meant n)
+  open-by : (t : Bool) → in_limits (meant n) ≡ t → open_after n ≡ open_if (verdict_by (not t) OutOfLimits (Ok tt)) (meant n)
   unfolding open_after open_verdict
   open-by t e = rw e
 

@@ -1,6 +1,7 @@
 -- The writer of trace files. Demand 1: what a call of a recorder says is told from its rows, as for the pool's calls. Then the round: what is closed reads
 -- back, and what the reader accepts is written back; both by recorder's invariant `Wrote` and trace's laws on what is encoded. And the replay, for CASA's
 -- pools: recorder's law for any lawful policy, from the world that an accepted open leaves, whose frames are all empty. Assumes nothing.
+use Rattle.std.specs.Prelude.{Ok, Err}
 use mathlib.Core.Path.{◌≡◌, refl, sym, ap, ◌∙◌, subst}
 use mathlib.Core.Bool.{true}
 use mathlib.Core.List.{List, [], ◌++◌}
@@ -17,8 +18,7 @@ use Rattle.model.specs.Times.{Times}
 use Rattle.model.specs.Run.{Call, write, World, verdict_of, after_all, history, gathered}
 use Rattle.model.specs.declared.Refusal.{Refusal}
 use Rattle.model.specs.declared.Refusal.TheVariants.{OutOfLimits}
-use Rattle.model.specs.declared.Verdict.{Verdict}
-use Rattle.model.specs.declared.Verdict.TheVariants.{Fine, Refused}
+use Rattle.model.specs.Words.{Verdict}
 use Rattle.model.proofs.Exactly.{first-given, given-first}
 use Rattle.model.proofs.Framed.{framed-lawful, framed-pooled}
 use Rattle.model.proofs.LastWritten.{Right}
@@ -31,7 +31,6 @@ use Rattle.casa.proofs.Lawful.{pools-framed, pools-lawful, open-limits, open-sou
 use Rattle.trace.specs.Format.{numbers_in, recorded_read, recorded_write, recorded_on, checked_of, notes_in, records_in}
 use Rattle.trace.specs.Encode.{trace_bytes, RecordsIn}
 use Rattle.trace.specs.declared.Trailer.{Trailer}
-use Rattle.trace.specs.declared.Checked.TheVariants as checked
 use Rattle.trace.specs.declared.Record.{Record}
 use Rattle.trace.proofs.Trailers.{header-accepts}
 use Rattle.trace.proofs.Reading.{fine-header}
@@ -50,23 +49,23 @@ use Rattle.claims.proofs.Runs.{open-state, open-right, run-write-right}
 
 -- ---- what a call of a recorder says, by its rows
 
-module _ (rows : List Row) (after : Verdict → RecorderLeft) (says : (z : Refusal) → (after (Refused z)).said ≡ refusal_says z)
-    (serves : (z : Refusal) → (after Fine).said ≡ refusal_says z → ⊥) (y : Refusal) where
-  says-refused : (after (first rows)).said ≡ refusal_says y → first rows ≡ Refused y
+module _ (rows : List Row) (after : Verdict → RecorderLeft) (says : (z : Refusal) → (after (Err z)).said ≡ refusal_says z)
+    (serves : (z : Refusal) → (after (Ok tt)).said ≡ refusal_says z → ⊥) (y : Refusal) where
+  says-refused : (after (first rows)).said ≡ refusal_says y → first rows ≡ Err y
   says-refused = go (first rows) refl
     where
-      go : (v : Verdict) → first rows ≡ v → (after v).said ≡ refusal_says y → first rows ≡ Refused y
-      go (Refused z) e k = e ∙ ap Refused (said-one z (sym (says z) ∙ k))
+      go : (v : Verdict) → first rows ≡ v → (after v).said ≡ refusal_says y → first rows ≡ Err y
+      go (Err z) e k = e ∙ ap Err (said-one z (sym (says z) ∙ k))
         where
           said-one : (z : Refusal) → refusal_says z ≡ refusal_says y → z ≡ y
           said-one z d = refusal-one-to-one z y (cc)
-      go Fine e k = absurd (serves y k)
+      go (Ok _) e k = absurd (serves y k)
 
   pub says-exactly : Exactly ((after (first rows)).said ≡ refusal_says y) (GivenBy y rows)
   says-exactly =
       (λ k. first-given rows y (says-refused k), λ g. ap (λ (v : Verdict). (after v).said) (given-first rows y g) ∙ says y)
 
-  pub says-leaves : (after (first rows)).said ≡ refusal_says y → after (first rows) ≡ after (Refused y)
+  pub says-leaves : (after (first rows)).said ≡ refusal_says y → after (first rows) ≡ after (Err y)
   says-leaves k = ap after (says-refused k)
 
 said-apart : (y : Refusal) → recorded ≡ refusal_says y → ⊥
@@ -107,18 +106,18 @@ module _ (x : Recorder) (buffer : List ℕ) (y : Refusal) where
   close-leaves = says-leaves (close_rows x (length buffer)) (λ v. close_if v x buffer) (λ z. refl) (closed-apart _) y
 
 -- the recorder of a refused `begin` is refused 1 by every call
-pub zero-add : (r : Record) (m : ℕ) → add_verdict zero_recorder r m ≡ Refused OutOfLimits
+pub zero-add : (r : Record) (m : ℕ) → add_verdict zero_recorder r m ≡ Err OutOfLimits
 unfolding add_verdict in_limits on_drive
 zero-add r m = refl
 
-pub zero-close : (m : ℕ) → close_verdict zero_recorder m ≡ Refused OutOfLimits
+pub zero-close : (m : ℕ) → close_verdict zero_recorder m ≡ Err OutOfLimits
 unfolding close_verdict in_limits on_drive
 zero-close m = refl
 
 -- ---- what is closed reads back
 
 -- records that are offered to a trace that was begun, refused ones among them; the trace may have been closed before
-module _ (n : Numbers) (notes buffer : List ℕ) (begun : begin_verdict n (length notes) (length buffer) ≡ Fine) (offered : List Record) where
+module _ (n : Numbers) (notes buffer : List ℕ) (begun : begin_verdict n (length notes) (length buffer) ≡ Ok tt) (offered : List Record) where
   abbrev first-tape : Tape
   first-tape = tape_of (begin_after n notes buffer)
 
@@ -140,7 +139,7 @@ module _ (n : Numbers) (notes buffer : List ℕ) (begun : begin_verdict n (lengt
 
 -- ---- what the reader accepts is written back
 
-module _ (s : List ℕ) (t : Trailer) (bytes : AllBelow 256 s) (fine : checked_of s ≡ checked.Fine t) (buffer : List ℕ) (long : length s ≤ length buffer) where
+module _ (s : List ℕ) (t : Trailer) (bytes : AllBelow 256 s) (fine : checked_of s ≡ Ok t) (buffer : List ℕ) (long : length s ≤ length buffer) where
   -- the notes, the records and the trailer are as long as the trace
   room : room_for (length (notes_in s t)) (length (records_in s t)) (length buffer) ≡ true
   room =
@@ -150,7 +149,7 @@ module _ (s : List ℕ) (t : Trailer) (bytes : AllBelow 256 s) (fine : checked_o
       let k = records_in-length s t fine in
       room-room_for (length (notes_in s t)) (length (records_in s t)) (length buffer) (omega arith, omega (arith, (header-accepts s t h).whole))
 
-  pub back-begins : begin_verdict (numbers_in t) (length (notes_in s t)) (length buffer) ≡ Fine
+  pub back-begins : begin_verdict (numbers_in t) (length (notes_in s t)) (length buffer) ≡ Ok tt
   unfolding begin_verdict
   back-begins =
       let none = room-fewer (length (notes_in s t)) 0 (length (records_in s t)) (length buffer) (omega arith) room in
@@ -166,11 +165,11 @@ module _ (s : List ℕ) (t : Trailer) (bytes : AllBelow 256 s) (fine : checked_o
 -- ---- a recorded run runs again
 
 -- opening with the numbers that a pool holds opens the same pool
-module _ (n : Numbers) (accepted : open_verdict n ≡ Fine) where
+module _ (n : Numbers) (accepted : open_verdict n ≡ Ok tt) where
   meant-same : meant (meant n) ≡ meant n
   meant-same = on_drive-within usual_read usual_write (meant n) (open-limits n accepted)
 
-  pub meant-opens : open_verdict (meant n) ≡ Fine
+  pub meant-opens : open_verdict (meant n) ≡ Ok tt
   unfolding open_verdict
   meant-opens = rw (meant-same, limits-in_limits (meant n) (open-limits n accepted))
 
@@ -197,7 +196,7 @@ module _ (n : Numbers) (accepted : open_verdict n ≡ Fine) where
       fresh-right : Right pools pools-lawful fresh (λ p. page_of (meant (meant n)).P p store')
       fresh-right = open-right (meant n) meant-opens frames' store' (rw meant-same framed) (rw meant-same stored)
 
-      fresh-fits : length out ≡ fresh.state.page_bytes
+      fresh-fits : length out ≡ fresh.state.numbers.page_bytes
       fresh-fits = fit ∙ sym (ap (λ (m : Numbers). m.P) meant-same) ∙ sym (ap (λ (s : State). s.numbers.P) (open-state (meant n) meant-opens frames' store'))
 
       pub run-again : gathered pools (shown pools) (opened n frames store) cs ≡ gathered pools (shown pools) fresh (calls_of out records)
@@ -220,7 +219,7 @@ module _ (n : Numbers) (accepted : open_verdict n ≡ Fine) where
     -- ---- recorded from opening, with the numbers that the pool holds, in a buffer with room for all records
 
     module _ (notes buffer : List ℕ) (space : room_for (length notes) (length records) (length buffer) ≡ true) where
-      pub run-begins : begin_verdict (meant n) (length notes) (length buffer) ≡ Fine
+      pub run-begins : begin_verdict (meant n) (length notes) (length buffer) ≡ Ok tt
       unfolding begin_verdict
       run-begins =
           rw (drive-same, limits-in_limits (meant n) (open-limits n accepted), room-fewer (length notes) 0 (length records) (length buffer) (omega arith) space)
@@ -240,7 +239,7 @@ module _ (n : Numbers) (accepted : open_verdict n ≡ Fine) where
 
     -- ---- in any buffer that the trace could be begun in: the records that found room are a front of them all, and that runs again
 
-    module _ (notes buffer : List ℕ) (begins : begin_verdict (meant n) (length notes) (length buffer) ≡ Fine) where
+    module _ (notes buffer : List ℕ) (begins : begin_verdict (meant n) (length notes) (length buffer) ≡ Ok tt) where
       front : (k : ℕ) × (kept (tape_of (begin_after (meant n) notes buffer)) records ≡ take k records)
       front = kept-front (begin-wrote (meant n) notes buffer begins) records records-right
 
@@ -254,7 +253,7 @@ module _ (n : Numbers) (accepted : open_verdict n ≡ Fine) where
 
 -- ---- the value of a recorded write
 
-module _ (n : Numbers) (accepted : open_verdict n ≡ Fine) (frames store : List ℕ) (cs : List Call) (t : Times) (q start : ℕ) (bytes : List ℕ) where
+module _ (n : Numbers) (accepted : open_verdict n ≡ Ok tt) (frames store : List ℕ) (cs : List Call) (t : Times) (q start : ℕ) (bytes : List ℕ) where
   abbrev before : World Pool
   before = after_all pools (opened n frames store) cs
 
@@ -262,5 +261,5 @@ module _ (n : Numbers) (accepted : open_verdict n ≡ Fine) (frames store : List
   told = history pools (opened n frames store) cs (λ p. page_of (meant n).P p store)
 
   -- byte 0 of the page as all served writes left it, this one the last
-  pub value-last : verdict_of pools before (write t q start bytes) ≡ Fine → value_of pools before t q start bytes ≡ get_or (laid q start bytes told q) 0 0
+  pub value-last : verdict_of pools before (write t q start bytes) ≡ Ok tt → value_of pools before t q start bytes ≡ get_or (laid q start bytes told q) 0 0
   value-last e = recorded-value pools pools-lawful before told (run-write-right n accepted frames store cs t q start bytes e) t q start bytes e

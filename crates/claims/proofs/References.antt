@@ -1,6 +1,7 @@
 -- Both lists are ordered by last reference: the number of each resident frame is that of the last served call of the run that read or wrote its page, and a
 -- sound pool has falling numbers down each list.
 -- Assumes nothing.
+use Rattle.std.specs.Prelude.{Ok}
 use mathlib.Core.Path.{◌≡◌, sym, subst}
 use mathlib.Core.List.{List, [], ◌∷◌}
 use Prim.Native.Nat.{ℕ, ◌≤◌, ◌<◌}
@@ -15,7 +16,6 @@ use Rattle.model.specs.Refusals.{open_verdict}
 use Rattle.model.specs.References.{Reference, referencing, last_reference}
 use Rattle.model.specs.Run.{Call, read, write, flush, drop, total, World, verdict_of, costs_in, left, after, after_all, brought_by, gathered}
 use Rattle.model.specs.declared.Op.TheVariants.{Read, Write}
-use Rattle.model.specs.declared.Verdict.TheVariants.{Fine}
 use Rattle.model.proofs.Refusals.{call-cases, read-clear, write-clear}
 use Rattle.model.proofs.References.{Tracked, Tracks, request-tracks, flush-tracks, drop-tracks, nothing-tracks, tracks-append}
 use Rattle.model.proofs.Steps.{Whole}
@@ -41,10 +41,10 @@ module _ (x : World Pool) (s : Sound x.state) where
   brought c = brought_by pools (verdict_of pools x c) (referencing c)
 
   -- a refused call references nothing; a served one leaves state t, and references what leads to it
-  tracked-by : (c : Call) (t : State) → (verdict_of pools x c ≡ Fine → state_of (left pools x c).state ≡ t)
-      → (verdict_of pools x c ≡ Fine → Tracks before t (referencing c)) → Tracks before (state_of (after pools x c).state) (brought c)
+  tracked-by : (c : Call) (t : State) → (verdict_of pools x c ≡ Ok tt → state_of (left pools x c).state ≡ t)
+      → (verdict_of pools x c ≡ Ok tt → Tracks before t (referencing c)) → Tracks before (state_of (after pools x c).state) (brought c)
   tracked-by c t is tracks =
-      call-cases pools x c (λ l. (verdict_of pools x c ≡ Fine → state_of l.state ≡ t) → Tracks before (state_of l.state) (brought c))
+      call-cases pools x c (λ l. (verdict_of pools x c ≡ Ok tt → state_of l.state ≡ t) → Tracks before (state_of l.state) (brought c))
       (λ y e at. rw e (nothing-tracks before))
       (λ e at. rw e (subst (λ (z : State). Tracks before z (referencing c)) (sym (at e)) (tracks e))) is
 
@@ -69,7 +69,7 @@ run-tracks (c ∷ cs) x s =
 
 -- ---- from an accepted open
 
-module _ (n : Numbers) (accepted : open_verdict n ≡ Fine) (frames store : List ℕ) (cs : List Call) where
+module _ (n : Numbers) (accepted : open_verdict n ≡ Ok tt) (frames store : List ℕ) (cs : List Call) where
   abbrev used : State
   used = state_of (after_all pools (opened n frames store) cs).state
 

@@ -1,6 +1,7 @@
 -- Runs of calls from an accepted open. Where the lent memory is not of the right size, every call leaves the world as it is; so a read that is served shows
 -- that it was, and then every page is as its history says. A served call does what Algorithm 1 does to the state that the pool holds.
 -- Assumes nothing.
+use Rattle.std.specs.Prelude.{Ok}
 use mathlib.Core.Path.{◌≡◌, refl, sym, ap, ◌∙◌, subst}
 use mathlib.Core.Bool.{Bool, true, false, false≢true}
 use mathlib.Core.List.{List, [], ◌∷◌}
@@ -19,7 +20,6 @@ use Rattle.model.specs.Refusals.{open_verdict}
 use Rattle.model.specs.Times.{Times}
 use Rattle.model.specs.Run.{Call, read, write, flush, drop, total, times_of, World, rows_of, verdict_of, costs_in, served, left, after, after_all, history}
 use Rattle.model.specs.declared.Op.TheVariants.{Read, Write}
-use Rattle.model.specs.declared.Verdict.TheVariants.{Fine}
 use Rattle.model.proofs.Refusals.{call-cases, first-clear, not-false, read-clear, write-clear, drop-ready}
 use Rattle.model.proofs.Moves.{vacant-keeps}
 use Rattle.model.proofs.Outcomes.{keeps-same}
@@ -46,7 +46,7 @@ sized-stays x h c = call-cases pools x c (λ l. ◌≡◌ {A = World Pool} (reco
     clash : {A : Type 0} → sized x ≡ true → A
     clash t = absurd (false≢true (sym h ∙ t))
 
-    stays-served : (d : Call) → verdict_of pools x d ≡ Fine
+    stays-served : (d : Call) → verdict_of pools x d ≡ Ok tt
         → ◌≡◌ {A = World Pool} (record { state = (served pools x d).state; memory = (served pools x d).memory }) x
     stays-served (read t q out) e = clash (not-false _ (first-clear (rows_of pools x (read t q out)) e).1.1.0)
     stays-served (write t q start bytes) e = clash (not-false _ (first-clear (rows_of pools x (write t q start bytes)) e).1.1.0)
@@ -60,14 +60,14 @@ run-stays (c ∷ cs) x h = ap (λ (y : World Pool). after_all pools y cs) (sized
 
 -- a served call that lends bytes shows it
 abbrev Sized : Call → Type 0
-Sized c = (x : World Pool) → verdict_of pools x c ≡ Fine → sized x ≡ true
+Sized c = (x : World Pool) → verdict_of pools x c ≡ Ok tt → sized x ≡ true
 
-run-sized : (c : Call) → Sized c → (cs : List Call) (x : World Pool) → verdict_of pools (after_all pools x cs) c ≡ Fine → sized x ≡ true
+run-sized : (c : Call) → Sized c → (cs : List Call) (x : World Pool) → verdict_of pools (after_all pools x cs) c ≡ Ok tt → sized x ≡ true
 run-sized c lends cs x e = go (sized x) refl
   where
     go : (t : Bool) → sized x ≡ t → sized x ≡ true
     go true h = h
-    go false h = lends x (subst (λ (y : World Pool). verdict_of pools y c ≡ Fine) (run-stays cs x h) e)
+    go false h = lends x (subst (λ (y : World Pool). verdict_of pools y c ≡ Ok tt) (run-stays cs x h) e)
 
 read-sized : (t : Times) (q : ℕ) (out : List ℕ) → Sized (read t q out)
 read-sized t q out x e = not-false _ (first-clear (rows_of pools x (read t q out)) e).1.1.0
@@ -86,7 +86,7 @@ run-sound = run-good pools pools-lawful
 
 -- ---- from an accepted open
 
-module _ (n : Numbers) (accepted : open_verdict n ≡ Fine) (frames store : List ℕ) where
+module _ (n : Numbers) (accepted : open_verdict n ≡ Ok tt) (frames store : List ℕ) where
   pub open-state : state_of (open_after n).pool ≡ opened_state (meant n)
   unfolding open_after
   open-state =
@@ -116,27 +116,27 @@ module _ (n : Numbers) (accepted : open_verdict n ≡ Fine) (frames store : List
       Right pools pools-lawful (after_all pools (opened n frames store) cs) (history pools (opened n frames store) cs (λ p. page_of (meant n).P p store))
 
   -- where a call that lends bytes is served, every page is as its history says
-  run-right-by : (c : Call) → Sized c → (cs : List Call) → verdict_of pools (after_all pools (opened n frames store) cs) c ≡ Fine → Kept-so cs
+  run-right-by : (c : Call) → Sized c → (cs : List Call) → verdict_of pools (after_all pools (opened n frames store) cs) c ≡ Ok tt → Kept-so cs
   run-right-by c lends cs e = run-right pools pools-lawful cs (opened n frames store) _ (sized-right (run-sized c lends cs (opened n frames store) e))
 
   -- a read that is served hands out the page as its history says
-  pub run-read : (cs : List Call) (t : Times) (q : ℕ) (out : List ℕ) → verdict_of pools (after_all pools (opened n frames store) cs) (read t q out) ≡ Fine
+  pub run-read : (cs : List Call) (t : Times) (q : ℕ) (out : List ℕ) → verdict_of pools (after_all pools (opened n frames store) cs) (read t q out) ≡ Ok tt
       → (left pools (after_all pools (opened n frames store) cs) (read t q out)).out ≡ history pools (opened n frames store) cs
       (λ p. page_of (meant n).P p store) q
   run-read cs t q out e =
       last-written pools pools-lawful (after_all pools (opened n frames store) cs) _ (run-right-by (read t q out) (read-sized t q out) cs e) t q out e
 
   pub run-write-right : (cs : List Call) (t : Times) (q start : ℕ) (bytes : List ℕ)
-      → verdict_of pools (after_all pools (opened n frames store) cs) (write t q start bytes) ≡ Fine → Kept-so cs
+      → verdict_of pools (after_all pools (opened n frames store) cs) (write t q start bytes) ≡ Ok tt → Kept-so cs
   run-write-right cs t q start bytes e = run-right-by (write t q start bytes) (write-sized t q start bytes) cs e
 
-  pub run-drop-right : (cs : List Call) (q : ℕ) → verdict_of pools (after_all pools (opened n frames store) cs) (drop q) ≡ Fine → Kept-so cs
+  pub run-drop-right : (cs : List Call) (q : ℕ) → verdict_of pools (after_all pools (opened n frames store) cs) (drop q) ≡ Ok tt → Kept-so cs
   run-drop-right cs q e = run-right-by (drop q) (drop-sized q) cs e
 
 -- ---- a served call of a sound pool does what Algorithm 1 does
 
 module _ (x : World Pool) (s : Sound x.state) where
-  pub call-follows : (c : Call) → verdict_of pools x c ≡ Fine → Followed (costs_in pools x (times_of c)) (state_of x.state) x.memory c (left pools x c)
+  pub call-follows : (c : Call) → verdict_of pools x c ≡ Ok tt → Followed (costs_in pools x (times_of c)) (state_of x.state) x.memory c (left pools x c)
   unfolding left
   call-follows (read t q out) e =
       let a = read-clear pools x t q out e in

@@ -1,25 +1,24 @@
 -- Refusals of traces: what `trace::header` and `trace::check` say is the first row whose condition holds, of the trailer's rows and then of the records'. And
 -- opening for a trace that is not refused. Assumes nothing.
+use Rattle.std.specs.Prelude.{Option, Some, None, is_some, unwrap_or, Ok, Err}
 use mathlib.Core.Path.{◌≡◌, refl, sym, ap, ◌∙◌}
-use mathlib.Core.Bool.{Bool, true, false, not, cond as if-else}
+use mathlib.Core.Bool.{Bool, true, false, cond as if-else}
 use mathlib.Core.List.{List, [], ◌∷◌, ◌++◌}
 use Prim.Native.Nat.{ℕ}
 use native.Mathlib.Omega.{arith}
-use lib.Dec.{eqb, ltb}
+use lib.Dec.{ltb}
 use lib.ListN.{length}
 use Rattle.model.specs.State.{opened}
 use Rattle.model.specs.Words.{opened as said_opened}
 use Rattle.model.specs.Refusals.{Row, verdict_by, first, GivenBy}
 use Rattle.model.specs.declared.Refusal.{Refusal}
 use Rattle.model.specs.declared.Refusal.TheVariants.{NotATrace, BadRecord}
-use Rattle.model.specs.declared.Verdict.{Verdict}
-use Rattle.model.specs.declared.Verdict.TheVariants as verdict
+use Rattle.model.specs.Words.{Verdict}
 use Rattle.model.proofs.Exactly.{first-given, given-first}
-use Rattle.trace.specs.Format.{trailer_length, numbers_in, recorded_on, trailer_rows, checked_by, judged, header_of, bad_in, checked_all, checked_of}
+use Rattle.trace.specs.Format.{trailer_length, numbers_in, recorded_on, trailer_rows, checked_by, judged, header_of}
+use Rattle.trace.specs.Format.{Checked, bad_in, checked_records, checked_all, checked_of}
 use Rattle.trace.specs.Words.{checked_says}
 use Rattle.trace.specs.declared.Trailer.{Trailer}
-use Rattle.trace.specs.declared.Checked.{Checked}
-use Rattle.trace.specs.declared.Checked.TheVariants.{Refused, Fine}
 use Rattle.trace.proofs.Settled.{checked-one-to-one}
 use Rattle.trace.proofs.Trailers.{header-accepts, accepted-opens}
 use Rattle.casa.specs.Calls.{open_after}
@@ -31,7 +30,7 @@ header-first : (s : List ℕ) → header_of s ≡ checked_by (first (header_rows
 unfolding header_of judged
 header-first s = go (ltb (length s) trailer_length)
   where
-    go : (t : Bool) → if-else t (Refused NotATrace) (judged (length s) (trailer_in s))
+    go : (t : Bool) → if-else t (Err NotATrace) (judged (length s) (trailer_in s))
         ≡ checked_by (verdict_by t NotATrace (first (trailer_rows (length s) (trailer_in s)))) (trailer_in s)
     go true = refl
     go false = refl
@@ -43,12 +42,12 @@ check-first s = ap (λ (h : Checked). checked_all h s) (header-first s) ∙ go (
     t : Trailer
     t = trailer_in s
 
-    last : (u : Bool) → if-else u (Fine t) (Refused (BadRecord (bad_in s t))) ≡ checked_by (verdict_by (not u) (BadRecord (bad_in s t)) verdict.Fine) t
-    last true = refl
-    last false = refl
+    last : (b : Option ℕ) → checked_records t b ≡ checked_by (verdict_by (is_some b) (BadRecord (unwrap_or b 0)) (Ok tt)) t
+    last None = refl
+    last (Some k) = refl
 
     go : (rows : List Row) → checked_all (checked_by (first rows) t) s ≡ checked_by (first (rows ++ (bad_row s ∷ []))) t
-    go [] = last (eqb (bad_in s t) 0)
+    go [] = last (bad_in s t)
     go (r ∷ rows) = by r.when (go rows)
       where
         by : (u : Bool) → checked_all (checked_by (first rows) t) s ≡ checked_by (first (rows ++ (bad_row s ∷ []))) t
@@ -58,14 +57,14 @@ check-first s = ap (λ (h : Checked). checked_all h s) (header-first s) ∙ go (
 
 -- ---- what is said, both ways: x is what a function answers of rows and a trailer
 
-refusal-of : (v : Verdict) (t : Trailer) (y : Refusal) → checked_by v t ≡ Refused y → v ≡ verdict.Refused y
-refusal-of (verdict.Refused z) t y e = let d : z ≡ y = cc in ap verdict.Refused d
-refusal-of verdict.Fine t y e = let z : ◌≡◌ {A = ℕ} 0 1 = cc in absurd (omega arith)
+refusal-of : (v : Verdict) (t : Trailer) (y : Refusal) → checked_by v t ≡ Err y → v ≡ Err y
+refusal-of (Err z) t y e = let d : z ≡ y = cc in ap Err d
+refusal-of (Ok _) t y e = let z : ◌≡◌ {A = ℕ} 0 1 = cc in absurd (omega arith)
 
 module _ (rows : List Row) (t : Trailer) (x : Checked) (e : x ≡ checked_by (first rows) t) (y : Refusal) where
   exactly : Exactly (TraceSays x y) (GivenBy y rows)
   exactly = (
-    λ s. first-given rows y (refusal-of (first rows) t y (sym e ∙ checked-one-to-one x (Refused y) s)),
+    λ s. first-given rows y (refusal-of (first rows) t y (sym e ∙ checked-one-to-one x (Err y) s)),
     λ g. ap checked_says (e ∙ ap (λ (v : Verdict). checked_by v t) (given-first rows y g)),
   )
 
@@ -77,7 +76,7 @@ check-exactly s = exactly (check_rows s) (trailer_in s) (checked_of s) (check-fi
 
 -- ---- opening for a trace
 
-pub header-opens : (s : List ℕ) (t : Trailer) → header_of s ≡ Fine t
+pub header-opens : (s : List ℕ) (t : Trailer) → header_of s ≡ Ok t
     → open_after (recorded_on (numbers_in t)) ≡ record { pool = pool_of (opened (recorded_on (numbers_in t))); said = said_opened }
 unfolding open_after
 header-opens s t e = let o = accepted-opens (header-accepts s t e) in rw (o.0, o.1)

@@ -1,7 +1,7 @@
 -- What the demands speak of, beside the calls: what is said, the world after an accepted open, what Algorithm 1 makes of a call, the adjustments of a run,
 -- lists by last reference, the frame that a fault took, the pages at the ends of the lists, and the rows of a trace.
 -- Assumes nothing.
-use Rattle.std.specs.Prelude.{◌≡◌, Bool, not, List, [], ◌∷◌, ◌++◌, ℕ, ◌-◌, ◌≤◌, ◌<◌, eqb, ltb, length, get_or, drop}
+use Rattle.std.specs.Prelude.{◌≡◌, Bool, List, [], ◌∷◌, ◌++◌, ℕ, ◌-◌, ◌≤◌, ◌<◌, ltb, length, get_or, drop, is_some, unwrap_or}
 use Rattle.pages.specs.Pages.{page_of}
 use Rattle.model.specs.Numbers.{Numbers}
 use Rattle.model.specs.Words.{Said, flushed as said_flushed, fault as said_fault, dropped as said_dropped, total as said_total, number_of, named_by}
@@ -21,10 +21,9 @@ use Rattle.model.specs.declared.Refusal.TheVariants.{NotATrace, BadRecord}
 use Rattle.pool.specs.Pool.{state_of, Sound}
 use Rattle.pool.specs.declared.Pool.{Pool}
 use Rattle.casa.specs.Calls.{pools, open_after, world_of}
-use Rattle.trace.specs.Format.{trailer_length, trailer_at, trailer_rows, bad_in}
+use Rattle.trace.specs.Format.{Checked, trailer_length, trailer_at, trailer_rows, bad_in}
 use Rattle.trace.specs.Words.{checked_says, refused}
 use Rattle.trace.specs.declared.Trailer.{Trailer}
-use Rattle.trace.specs.declared.Checked.{Checked}
 use Rattle.recorder.specs.Words.{closed}
 use Rattle.recorder.specs.Calls.{close_after}
 use Rattle.recorder.specs.Runs.{Tape}
@@ -116,7 +115,7 @@ abbrev pub header_rows : List ℕ → List Row
 header_rows s = record { when = ltb (length s) trailer_length; why = NotATrace } ∷ trailer_rows (length s) (trailer_in s)
 
 abbrev pub bad_row : List ℕ → Row
-bad_row s = record { when = not (eqb (bad_in s (trailer_in s)) 0); why = BadRecord (bad_in s (trailer_in s)) }
+bad_row s = record { when = is_some (bad_in s (trailer_in s)); why = BadRecord (unwrap_or (bad_in s (trailer_in s)) 0) }
 
 abbrev pub check_rows : List ℕ → List Row
 check_rows s = header_rows s ++ (bad_row s ∷ [])

@@ -2,172 +2,138 @@
 // in every byte, so that a zero comes from a drop.
 #![tactic(auto)]
 
-use order::PLACES;
+use model::Numbers;
 use pool::Pool;
 use std::io;
-use tell::{end, number, word};
+use tell::{Told, Wrote};
 
-// ---- calls, told in a line
-
-fn tell_call(rt: &impl Print, what: &[u8], page: usize) -> io::Result<()> {
-    word(rt, what)?;
-    number(rt, page as u64)
+// A call of a script, on a page. A write has the mark that becomes byte 0 of it.
+#[derive(Clone, Copy)]
+enum Call {
+    Read(usize),
+    Write(usize, u8),
+    Flush,
+    Cut(usize),
 }
 
-fn tell_byte(rt: &impl Print, byte: u8) -> io::Result<()> {
-    word(rt, b" byte")?;
-    number(rt, byte as u64)
-}
+use Call::{Cut, Flush, Read, Write};
 
-fn read(
-    rt: &impl Print,
+// A pool, and what is lent to it.
+#[derive(Drop)]
+struct PageBuffer {
     pool: Pool,
-    page: usize,
-    frames: &mut [u8],
-    store: &mut [u8],
-) -> io::Result<Pool> {
-    let mut out = [0xEEu8; 16];
-    let served = casa::read_page(pool, page, frames, store, &mut out);
-    let answer = served.answer;
-    tell_call(rt, b"read", page)?;
-    tell::answer(rt, answer)?;
-    tell_byte(rt, out[0])?;
-    Ok(served.pool)
+    frames: [u8; 64],
+    store: [u8; 128],
 }
 
-fn write(
-    rt: &impl Print,
-    pool: Pool,
-    page: usize,
-    mark: u8,
-    frames: &mut [u8],
-    store: &mut [u8],
-) -> io::Result<Pool> {
-    let bytes = [mark];
-    let served = casa::write_page(pool, page, 0, &bytes, frames, store);
-    let answer = served.answer;
-    tell_call(rt, b"write", page)?;
-    tell::answer(rt, answer)?;
-    Ok(served.pool)
-}
-
-fn flush(rt: &impl Print, pool: Pool, frames: &[u8], store: &mut [u8]) -> io::Result<Pool> {
-    let flushed = casa::flush(pool, frames, store);
-    let answer = flushed.answer;
-    word(rt, b"flush")?;
-    tell::flush(rt, answer)?;
-    Ok(flushed.pool)
-}
-
-fn drop(
-    rt: &impl Print,
-    pool: Pool,
-    page: usize,
-    frames: &[u8],
-    store: &mut [u8],
-) -> io::Result<Pool> {
-    let dropped = casa::drop_page(pool, page, frames, store);
-    let answer = dropped.answer;
-    tell_call(rt, b"drop", page)?;
-    tell::drop(rt, answer)?;
-    Ok(dropped.pool)
-}
-
-fn tell_counts(rt: &impl Print, pool: Pool) -> io::Result<()> {
-    word(rt, b"target")?;
-    number(rt, pool.target)?;
-    word(rt, b" ")?;
-    tell::counts(rt, pool.reads.0, pool.writes.0, pool.served)
-}
-
-// ---- calls by a script: each is a letter and a digit, its page
-
-fn serve(
-    rt: &impl Print,
-    pool: Pool,
-    letter: u8,
-    page: usize,
-    mark: u8,
-    frames: &mut [u8],
-    store: &mut [u8],
-) -> io::Result<Pool> {
-    match letter {
-        b'R' => read(rt, pool, page, frames, store),
-        b'W' => write(rt, pool, page, mark, frames, store),
-        b'F' => flush(rt, pool, frames, store),
-        _ => drop(rt, pool, page, frames, store),
-    }
-}
-
-// The end of a call's line: how many frames are empty, and the last of E, which the next fault takes.
-fn tell_empty(rt: &impl Print, pool: Pool) -> io::Result<()> {
-    let empty = pool.empty;
-    let n = pool.empty_len;
-    word(rt, b" empty")?;
-    number(rt, n as u64)?;
-    if 0 < n {
-        if n <= PLACES {
-            word(rt, b" last")?;
-            number(rt, empty[n - 1] as u64)?;
+impl PageBuffer {
+    // Four frames.
+    fn open() -> Self {
+        let opened = casa::open(Numbers {
+            frames: 4,
+            page_bytes: 16,
+            pages: 8,
+            read_cost: 1,
+            write_cost: 3,
+        });
+        PageBuffer {
+            pool: opened.pool,
+            frames: [0; 64],
+            store: [9; 128],
         }
     }
-    end(rt)
-}
 
-// The k-th call's mark, if it is a write, is 100 + k.
-fn play(
-    rt: &impl Print,
-    pool: Pool,
-    script: &[u8],
-    frames: &mut [u8; 64],
-    store: &mut [u8; 128],
-) -> io::Result<Pool> {
-    let mut now = pool;
-    let mut k = 0;
-    while k < script.len() / 2 {
-        let letter = script[2 * k];
-        let page = std::num::wrapping_sub_u8(script[2 * k + 1], b'0') as usize;
-        k += 1;
-        let mark = (100 + k % 100) as u8;
-        let after = serve(rt, now, letter, page, mark, frames, store)?;
-        tell_empty(rt, after)?;
-        now = after;
+    // Makes a call, and starts its line.
+    fn serve(&mut self, rt: &impl Print, call: Call) -> io::Result<()> {
+        let frames = &mut self.frames;
+        let store = &mut self.store;
+        match call {
+            Read(page) => {
+                let mut out = [0xEE; 16];
+                let read = casa::read_page(self.pool, page, frames, store, &mut out);
+                self.pool = read.pool;
+                print!(rt; "read {page} {} byte {}", Told(read.answer), out[0])
+            }
+            Write(page, mark) => {
+                let wrote = casa::write_page(self.pool, page, 0, &[mark], frames, store);
+                self.pool = wrote.pool;
+                print!(rt; "write {page} {}", Told(wrote.answer))
+            }
+            Flush => {
+                let flushed = casa::flush(self.pool, frames, store);
+                self.pool = flushed.pool;
+                print!(rt; "flush {}", Told(flushed.answer.map(Wrote)))
+            }
+            Cut(page) => {
+                let dropped = casa::drop_page(self.pool, page, frames, store);
+                self.pool = dropped.pool;
+                print!(rt; "drop {page} {}", Told(dropped.answer.map(|()| "dropped")))
+            }
+        }
     }
-    tell_counts(rt, now)?;
-    Ok(now)
+
+    // The end of a call's line: how many frames are empty, and the last of E, which the next fault takes.
+    fn tell_empty(&self, rt: &impl Print) -> io::Result<()> {
+        let empty = self.pool.lists.empty;
+        let n = empty.len;
+        match empty.places.get(..n).and_then(|frames| frames.last()) {
+            Some(frame) => println!(rt; " empty {n} last {frame}"),
+            None => println!(rt; " empty {n}"),
+        }
+    }
+
+    fn tell_counts(&self, rt: &impl Print) -> io::Result<()> {
+        print!(rt; "target {} ", self.pool.target)?;
+        tell::counts(rt, self.pool.reads.0, self.pool.writes.0, self.pool.served)
+    }
+
+    fn play(&mut self, rt: &impl Print, script: &[Call]) -> io::Result<()> {
+        for &call in script {
+            self.serve(rt, call)?;
+            self.tell_empty(rt)?;
+        }
+        self.tell_counts(rt)
+    }
 }
 
-// Four frames. Page 1 is saved, pages 2 and 3 are not, and no frame is empty. Then the frame of page 1 goes to page 5, with no victim; of the frames of pages 2
-// and 3 the one that came back last is used first, and neither page is written.
+// Page 1 is saved, pages 2 and 3 are not, and no frame is empty. Then the frame of page 1 goes to page 5, with no victim; of the frames of pages 2 and 3 the
+// one that came back last is used first, and neither page is written.
 fn cut_week(rt: &impl Print) -> io::Result<()> {
-    let mut frames = [0u8; 64];
-    let mut store = [9u8; 128];
-    let opened = casa::open(4, 16, 8, 1, 3);
-    let week = play(
+    let mut week = PageBuffer::open();
+    week.play(
         rt,
-        opened.pool,
-        b"W1W2F0W2W3R4R1R2",
-        &mut frames,
-        &mut store,
+        &[
+            Write(1, 101),
+            Write(2, 102),
+            Flush,
+            Write(2, 104),
+            Write(3, 105),
+            Read(4),
+            Read(1),
+            Read(2),
+        ],
     )?;
-    play(rt, week, b"D1R5D2D3R2R3", &mut frames, &mut store)?;
-    Ok(())
+    week.play(rt, &[Cut(1), Read(5), Cut(2), Cut(3), Read(2), Read(3)])
 }
 
 // Page 0 was saved once and changed since: the flush behind its drop writes page 1 alone. Then it is absent, and a second drop frees no frame: empty frames
 // have page number 0, and not page 0.
 fn cut_twice(rt: &impl Print) -> io::Result<()> {
-    let mut frames = [0u8; 64];
-    let mut store = [9u8; 128];
-    let opened = casa::open(4, 16, 8, 1, 3);
-    play(
+    let mut buffer = PageBuffer::open();
+    buffer.play(
         rt,
-        opened.pool,
-        b"W0F0W0W1D0F0D0R0R1",
-        &mut frames,
-        &mut store,
-    )?;
-    Ok(())
+        &[
+            Write(0, 101),
+            Flush,
+            Write(0, 103),
+            Write(1, 104),
+            Cut(0),
+            Flush,
+            Cut(0),
+            Read(0),
+            Read(1),
+        ],
+    )
 }
 
 fn main(rt: HostRuntime) -> io::Result<()> {

@@ -1,8 +1,8 @@
 // Frames whose page was changed: one is written back before another page comes into it, and the frames of a list are written back in their order.
 #![tactic(auto)]
 
-ghost use Rattle.std.specs.Prelude.{◌≡◌, ℕ, ◌≤◌, ◌<◌, length, get_or, take};
-ghost use Rattle.order.specs.Places.{places};
+ghost use Rattle.std.specs.Prelude.{◌≡◌, length};
+ghost use Rattle.std.specs.List.{All};
 ghost use Rattle.pages.specs.Pages.{page_of, with_page, InPages};
 ghost use Rattle.pages.specs.Memory.{written_back, FrameIn};
 
@@ -17,38 +17,32 @@ pub fn replace(
     new: usize,
     size: usize,
 )
-    requires in_pages { InPages size frame (length frames.old) }
-    requires in_pages_2 { InPages size old (length store.old) }
-    requires in_pages_3 { InPages size new (length store.old) }
+    requires frame_in { InPages size frame (length frames.old) }
+    requires old_in { InPages size old (length store.old) }
+    requires new_in { InPages size new (length store.old) }
     ensures store_after { store.new ≡ with_page size old (page_of size frame frames.old) store.old }
     ensures frames_after { frames.new ≡ with_page size frame (page_of size new store.new) frames.old }
 {
     let at = frame * size;
-    let end = at + size;
-    pages::write_back(store, old, &frames[at..end], size);
+    pages::write_back(store, old, &frames[at..at + size], size);
     pages::fetch(frames, frame, store, new, size);
 }
 
-// The first n frames of a list are written to their pages, the last of them first.
+// The frames of a list are written to their pages, the last of them first.
 pub fn write_back_all(
     store: &mut [u8],
     frames: &[u8],
-    list: [u8; PLACES],
-    n: usize,
-    page: [u16; PLACES],
+    list: &[u8],
+    page: &[u16; PLACES],
     size: usize,
 )
-    requires n_le_places { n ≤ places }
-    requires by_index { (k : ℕ) → k < n → FrameIn size page (length frames.now) (length store.old) (get_or list k 0) }
-    ensures { store.new ≡ written_back size page frames.now (take n list) store.old }
+    requires { All (λ f. FrameIn size page.now (length frames.now) (length store.old) f) list.now }
+    ensures { store.new ≡ written_back size page.now frames.now list.now store.old }
 {
-    let mut i = n;
-    while 0 < i {
-        i -= 1;
-        let f = list[i] as usize;
-        let q = page[f] as usize;
+    for &frame in list.iter().rev() {
+        let f = usize::from(frame);
+        let q = usize::from(page[f]);
         let at = f * size;
-        let end = at + size;
-        pages::write_back(store, q, &frames[at..end], size);
+        pages::write_back(store, q, &frames[at..at + size], size);
     }
 }

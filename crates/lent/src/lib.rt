@@ -7,8 +7,8 @@ ghost use Rattle.model.specs.Times.{unmeasured, measured};
 ghost use Rattle.model.specs.Run as run;
 ghost use Rattle.casa.specs.Calls.{after, served_left, flushed_left, dropped_left};
 
-use casa::Served;
-use model::{Answer, Dropping, Flushing, Kept};
+use casa::{Done, Served};
+use model::{Answer, Kept, Refusal};
 use pool::Pool;
 
 // Reads a page into `out`. Refused: 2, 3, 4, 5, 6.
@@ -80,7 +80,7 @@ pub fn write_page_measured_in(
 }
 
 // Writes every changed page to the store. Refused: 2, 3, 6.
-pub fn flush_in(pool: &mut Pool, frames: &[u8], store: &mut [u8]) -> Flushing
+pub fn flush_in(pool: &mut Pool, frames: &[u8], store: &mut [u8]) -> Result<usize, Refusal>
     ensures { flushed_left (record { pool = pool.new; answer = result }) frames.now store.new ≡
         after pool.old frames.now store.old run.flush }
 {
@@ -90,7 +90,12 @@ pub fn flush_in(pool: &mut Pool, frames: &[u8], store: &mut [u8]) -> Flushing
 }
 
 // Cuts a page for good. Refused: 2, 3, 4, 6.
-pub fn drop_page_in(pool: &mut Pool, page: usize, frames: &[u8], store: &mut [u8]) -> Dropping
+pub fn drop_page_in(
+    pool: &mut Pool,
+    page: usize,
+    frames: &[u8],
+    store: &mut [u8],
+) -> Result<(), Refusal>
     ensures { dropped_left (record { pool = pool.new; answer = result }) frames.now store.new ≡
         after pool.old frames.now store.old (run.drop page) }
 {
@@ -112,5 +117,5 @@ pub fn read_page_own(
 {
     let mut own = pool;
     let answer = read_page_in(&mut own, page, frames, store, out);
-    Served { pool: own, answer }
+    Done { pool: own, answer }
 }

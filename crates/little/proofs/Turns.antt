@@ -1,16 +1,16 @@
--- The loops of `put`, `get`, `put_all` and `get_all`: that the invariant of each holds at the start and after a turn, and what it says at
--- the end. Each is a step along the definition of what is written or read. Assumes nothing.
+-- The loops of `put`, `get`, `put_all` and `get_all`: that the invariant of each holds at the start and after a turn, and what it says at the end. Each is a
+-- step along the definition of what is written or read. Assumes nothing.
 use mathlib.Core.Path.{◌≡◌, ap, ◌∙◌}
-use mathlib.Core.List.{List, ◌∷◌, ◌++◌, append_assoc, append-nil}
+use mathlib.Core.List.{List, [], ◌∷◌, ◌++◌, append_assoc, append-nil}
 use Prim.Native.Nat.{ℕ, suc, ◌+◌, ◌-◌, ◌*◌, ◌/◌, ◌%◌, ◌^◌, ◌≤◌, ◌<◌}
-use native.Mathlib.Nat.{suc-mul, zero-mul, mul-le-mul_right, add-sub_cancel_left, sub-zero}
+use native.Mathlib.Nat.{suc-mul, mul_assoc, mul-add, mul-le-mul_right, pow-succ', one-le-pow, add-sub_cancel_left, sub-zero}
 use native.Mathlib.Numerals.{add-one}
 use native.Mathlib.Omega.{arith}
-use lib.ListN.{length, take, drop, get_or, set, length-append, length-drop, drop_of_length-le}
-use lib.Seq.{length-take-le, take_all, drop-length, take-suc-set, take_at, drop-cons, drop-drop}
+use lib.ListN.{length, take, drop, get_or, set, length-append, drop_of_length-le}
+use lib.Seq.{length-take-le, take_all, take-suc-set, take_at, drop-cons, drop-drop}
 use borrow.Rule.Slice.PartMut.{mid_of, put_mid, mid_len}
 use Rattle.little.specs.Little.{bytes_of, number_of, bytes_of_all, numbers_of, AllBelow}
-use Rattle.little.proofs.Laws.{all_below-drop, bytes_of-length, number_of-below}
+use Rattle.little.proofs.Laws.{bytes_of-length, number_of-below}
 
 -- ---- `put`: what is written, and then the bytes of what is left of x, are the bytes of x
 
@@ -32,33 +32,44 @@ put-end out all n i rest h l e =
     let j : length out ≤ i = omega arith in
     rw (k, append-nil, take_all) at e
 
--- ---- `get`: r is the number that the bytes from i on spell
+-- ---- `get`: the number of the bytes that are left, and above them r, are the number of all bytes
 
-pub get-start : (bs : List ℕ) → 0 ≡ number_of (drop (length bs) bs)
+number_of-last : (bs : List ℕ) (b : ℕ) → number_of (bs ++ (b ∷ [])) ≡ number_of bs + 256 ^ length bs * b
 unfolding number_of
-get-start bs = rw drop-length
+number_of-last [] b = omega arith
+number_of-last (x ∷ bs) b = rw (number_of-last bs b, pow-succ', mul_assoc) (omega arith)
 
-pub get-turn : (bs : List ℕ) (i r : ℕ) → 0 < i → i ≤ length bs → r ≡ number_of (drop i bs)
-    → r * 256 + get_or bs (i - 1) 0 ≡ number_of (drop (i - 1) bs)
+-- a turn takes the last of the bytes that are left
+pub get-turn : (bs left all : List ℕ) (b r : ℕ) → bs ≡ left ++ (b ∷ []) → number_of bs + 256 ^ length bs * r ≡ number_of all
+    → number_of left + 256 ^ length left * (r * 256 + b) ≡ number_of all
+get-turn bs left all b r e h =
+    let k : length (left ++ (b ∷ [])) ≡ suc (length left) = simp length-append (add-one (length left)) in
+    let p = 256 ^ length left in
+    let turned = rw (e, number_of-last left b, k, pow-succ', mul_assoc) at h in
+    omega (arith, turned, mul-add p (r * 256) b, mul_assoc p r 256)
+
+-- what then stands above the bytes that are left is at most the number of all, which at most 8 bytes spell
+pub get-room : (bs left all : List ℕ) (b r : ℕ) → length all ≤ 8 → AllBelow 256 all → bs ≡ left ++ (b ∷ []) → number_of bs + 256 ^ length bs * r ≡ number_of all
+    → r * 256 + b < 2 ^ 64
+get-room bs left all b r l below e h =
+    omega (
+      arith,
+      get-turn bs left all b r e h,
+      number_of-below 8 all l below,
+      mul-le-mul_right (r * 256 + b) (one-le-pow (length left) 256 (omega arith)),
+    )
+
+pub get-end : (left all : List ℕ) (r : ℕ) → length left ≡ 0 → number_of left + 256 ^ length left * r ≡ number_of all → r ≡ number_of all
 unfolding number_of
-get-turn bs i r h l e =
-    let k : suc (i - 1) ≡ i = omega arith in
-    let d : drop (i - 1) bs ≡ get_or bs (i - 1) 0 ∷ drop i bs = rw k at (drop-cons bs (i - 1) 0 (omega arith)) in
-    rw (e, d)
-
--- of at most 8 bytes, those from i on with 0 < i spell a number that leaves room for one byte more
-pub get-room : (bs : List ℕ) (i r : ℕ) → 0 < i → length bs ≤ 8 → AllBelow 256 bs → r ≡ number_of (drop i bs) → r < 256 ^ 7
-get-room bs i r h l b e = rw e (number_of-below 7 (drop i bs) (simp length-drop (omega arith)) (all_below-drop 256 i bs b))
+get-end [] all r z h = omega (arith, h)
+get-end (x ∷ left) all r z h = absurd (omega arith)
 
 -- ---- `put_all` and `get_all`: part i of w bytes lies within n parts
 
-pub part-within : (w i n : ℕ) → i < n → i * w + w ≤ n * w
+part-within : (w i n : ℕ) → i < n → i * w + w ≤ n * w
 part-within w i n h = rw suc-mul at (mul-le-mul_right w h)
 
 -- ---- `put_all`: the parts written, and then the bytes of the numbers from i on, are all bytes
-
-pub put_all-start : (w : ℕ) (out xs : List ℕ) → take (0 * w) out ++ bytes_of_all w (drop 0 xs) ≡ bytes_of_all w xs
-put_all-start w out xs = rw zero-mul
 
 pub put_all-turn : (w i : ℕ) (out xs all ys : List ℕ) → i < length xs → length out ≡ length xs * w
     → ys ≡ bytes_of (length (mid_of (i * w) (i * w + w - i * w) out)) (get_or xs i 0)
@@ -81,9 +92,6 @@ put_all-end w i out xs all h l e =
     rw (drop_of_length-le xs h, append-nil, take_all) at e
 
 -- ---- `get_all`: the numbers read, and then those that the bytes from part i on spell, are all numbers
-
-pub get_all-start : (w n : ℕ) (xs bs : List ℕ) → take 0 xs ++ numbers_of w (n - 0) (drop (0 * w) bs) ≡ numbers_of w n bs
-get_all-start w n xs bs = rw (sub-zero, zero-mul)
 
 pub get_all-turn : (w i n x : ℕ) (xs bs all : List ℕ) → i < n → length xs ≡ n → x ≡ number_of (mid_of (i * w) (i * w + w - i * w) bs)
     → take i xs ++ numbers_of w (n - i) (drop (i * w) bs) ≡ all

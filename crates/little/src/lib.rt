@@ -9,11 +9,9 @@ pub fn put(out: &mut [u8], x: u64)
     ensures { out.new ≡ bytes_of (length out.old) x }
 {
     let mut rest = x;
-    let mut i = 0;
-    while i < out.len() {
-        out[i] = (rest % 256) as u8;
+    for b in out.iter_mut() {
+        *b = (rest % 256) as u8;
         rest /= 256;
-        i += 1;
     }
 }
 
@@ -22,12 +20,9 @@ pub fn get(bytes: &[u8]) -> u64
     requires { length bytes.now ≤ 8 }
     ensures { result ≡ number_of bytes.now }
 {
-    let mut r: u64 = 0;
-    let mut i = bytes.len();
-    while 0 < i {
-        i -= 1;
-        let b = bytes[i] as u64;
-        r = r * 256 + b;
+    let mut r = 0;
+    for &b in bytes.iter().rev() {
+        r = r * 256 + u64::from(b);
     }
     r
 }
@@ -37,12 +32,9 @@ pub fn put_all(out: &mut [u8], width: usize, xs: &[u64])
     requires { length out.old ≡ length xs.now * width }
     ensures { out.new ≡ bytes_of_all width xs.now }
 {
-    let mut i = 0;
-    while i < xs.len() {
+    for (i, &x) in xs.iter().enumerate() {
         let at = i * width;
-        let end = at + width;
-        put(&mut out[at..end], xs[i]);
-        i += 1;
+        put(&mut out[at..at + width], x);
     }
 }
 
@@ -52,12 +44,8 @@ pub fn get_all(xs: &mut [u64], width: usize, bytes: &[u8])
     requires bytes_len { length bytes.now ≡ length xs.old * width }
     ensures { xs.new ≡ numbers_of width (length xs.old) bytes.now }
 {
-    let mut i = 0;
-    while i < xs.len() {
+    for (i, x) in xs.iter_mut().enumerate() {
         let at = i * width;
-        let end = at + width;
-        let x = get(&bytes[at..end]);
-        xs[i] = x;
-        i += 1;
+        *x = get(&bytes[at..at + width]);
     }
 }

@@ -1,6 +1,7 @@
 -- A request moves the target by the adjustments that it makes, each with the sizes that the lists really have then, and a flush and a drop make none. So
 -- after a run the target is the start with the run's adjustments made in order, and the drift theorem speaks of it.
 -- Assumes nothing.
+use Rattle.std.specs.Prelude.{Option, Some, None}
 use mathlib.Core.Path.{◌≡◌, refl, sym, ◌∙◌}
 use mathlib.Core.List.{List, [], ◌∷◌, ◌++◌}
 use Prim.Native.Nat.{ℕ, ◌+◌, ◌<◌}
@@ -12,7 +13,7 @@ use Rattle.model.specs.Request.{locate, chosen, taken, fault_into, request_at, r
 use Rattle.model.specs.declared.Op.{Op}
 use Rattle.model.specs.declared.Op.TheVariants.{Read, Write}
 use Rattle.model.specs.declared.Place.{Place}
-use Rattle.model.specs.declared.Place.TheVariants.{InClean, InDirty, Absent}
+use Rattle.model.specs.declared.Place.TheVariants.{InClean, InDirty}
 use Rattle.model.specs.declared.Choice.{Choice}
 use Rattle.model.specs.declared.Choice.TheVariants.{OfEmpty, OfClean, OfDirty}
 use Rattle.model.proofs.Steps.{PlaceRight, locate-right}
@@ -35,14 +36,14 @@ fault-adjusted Write s q (OfEmpty i) = stays _ _ refl refl
 fault-adjusted Write s q (OfClean i) = stays _ _ refl refl
 fault-adjusted Write s q (OfDirty i) = stays _ _ refl refl
 
-place-adjusted : (op : Op) (k : Costs) → 0 < k.r + k.w → (s : State) (q : ℕ) (x : Place) → PlaceRight s q x
+place-adjusted : (op : Op) (k : Costs) → 0 < k.r + k.w → (s : State) (q : ℕ) (x : Option Place) → PlaceRight s q x
     → Adjusted s (request_at op k s q x).state (adjustments_at op k s x)
-place-adjusted Read k h s q (InClean i) p = record { numbers = refl; target = refl; divide = (mul-pos h (omega (arith, p.0)), tt) }
-place-adjusted Write k h s q (InClean i) p = stays _ _ refl refl
-place-adjusted Write k h s q (InDirty i) p = record { numbers = refl; target = refl; divide = (mul-pos h (omega (arith, p.0)), tt) }
-place-adjusted Read k h s q (InDirty i) p = stays _ _ refl refl
-place-adjusted Read k h s q Absent p = fault-adjusted Read s q (chosen s)
-place-adjusted Write k h s q Absent p = fault-adjusted Write s q (chosen s)
+place-adjusted Read k h s q (Some (InClean i)) p = record { numbers = refl; target = refl; divide = (mul-pos h (omega (arith, p.0)), tt) }
+place-adjusted Write k h s q (Some (InClean i)) p = stays _ _ refl refl
+place-adjusted Write k h s q (Some (InDirty i)) p = record { numbers = refl; target = refl; divide = (mul-pos h (omega (arith, p.0)), tt) }
+place-adjusted Read k h s q (Some (InDirty i)) p = stays _ _ refl refl
+place-adjusted Read k h s q None p = fault-adjusted Read s q (chosen s)
+place-adjusted Write k h s q None p = fault-adjusted Write s q (chosen s)
 
 pub request-adjusted : (op : Op) (k : Costs) → 0 < k.r + k.w → (s : State) (q : ℕ) → Adjusted s (request op k s q).state (adjustments_of op k s q)
 request-adjusted op k h s q = place-adjusted op k h s q (locate s q) (locate-right s q)
@@ -53,10 +54,10 @@ flush-adjusted s = stays s (flushed s) refl refl
 pub drop-adjusted : (s : State) (q : ℕ) → Adjusted s (dropped s q) []
 drop-adjusted s q = go (locate s q)
   where
-    go : (x : Place) → Adjusted s (dropped_at s x) []
-    go (InClean i) = stays _ _ refl refl
-    go (InDirty i) = stays _ _ refl refl
-    go Absent = stays _ _ refl refl
+    go : (x : Option Place) → Adjusted s (dropped_at s x) []
+    go (Some (InClean i)) = stays _ _ refl refl
+    go (Some (InDirty i)) = stays _ _ refl refl
+    go None = stays _ _ refl refl
 
 -- ---- one after the other
 

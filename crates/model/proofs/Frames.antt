@@ -1,6 +1,7 @@
 -- Frames whatever the policy: a step keeps them placed, its answer is right about what they hold, and it leaves what `content_after` says; a flush leaves what
 -- `cleaned_by` says, and a drop what `without` says. All by how often a frame stands as empty, as resident and as unsaved.
 -- Assumes nothing.
+use Rattle.std.specs.Prelude.{Option, Some, None, Ok, Err}
 use mathlib.Core.Path.{◌≡◌, refl, sym, ap, ◌∙◌, subst}
 use mathlib.Core.Logic.{◌≢◌, dite}
 use mathlib.Core.List.{List}
@@ -18,9 +19,9 @@ use Rattle.model.specs.Moves.{Content, vacant, clean, dirty, Has, Loose, put, wi
 use Rattle.model.specs.declared.Op.{Op}
 use Rattle.model.specs.declared.Op.TheVariants.{Read, Write}
 use Rattle.model.specs.declared.Victim.{Victim}
-use Rattle.model.specs.declared.Victim.TheVariants.{None, Clean, Dirty}
-use Rattle.model.specs.declared.Answer.{Answer}
-use Rattle.model.specs.declared.Answer.TheVariants.{Refused, Hit, Fault}
+use Rattle.model.specs.declared.Victim.TheVariants.{Clean, Dirty}
+use Rattle.model.specs.Words.{Answer}
+use Rattle.model.specs.declared.Access.TheVariants.{Hit, Fault}
 use Rattle.model.specs.Frames.{Frames, page_at, content_by, content_in, Placed, Blank, FaultMark, HitStep, VictimOf, FaultStep, Step, FlushStep}
 use Rattle.model.specs.Frames.{VacatedStep, DropStep, vacates, misses}
 use Rattle.model.proofs.Moves.{put-same, put-other, at-or-off, without-here, without-off}
@@ -106,7 +107,7 @@ module _ (n : Numbers) (x : Frames) (p : Placed n x) where
     set-off : (h : ℕ) → f ≢ h → page_at y h ≡ page_at x h
     set-off h m = page-at h page_set ∙ get_or-set_other x.page f h q 0 (λ e. m (sym e))
 
-  module _ (y : Frames) (op : Op) (q f : ℕ) (v : Victim) (t : FaultStep op q f v x y) where
+  module _ (y : Frames) (op : Op) (q f : ℕ) (v : Option Victim) (t : FaultStep op q f v x y) where
     page-here : page_at y f ≡ q
     page-here = set-here y q f t.page_set t.stands
 
@@ -139,8 +140,8 @@ module _ (n : Numbers) (x : Frames) (p : Placed n x) where
     off : (h : ℕ) → f ≢ h → (y.resident h ≡ x.resident h) × (y.unsaved h ≡ x.unsaved h) × (page_at y h ≡ page_at x h)
     off h m = (t.resident_off h m, t.mark_off h m, page-off h m)
 
-  fault-content : (y : Frames) (op : Op) (q f : ℕ) (v : Victim) → FaultStep op q f v x y
-      → (g : ℕ) → content_in y g ≡ content_after op q f (Fault v) (content_in x) g
+  fault-content : (y : Frames) (op : Op) (q f : ℕ) (v : Option Victim) → FaultStep op q f v x y
+      → (g : ℕ) → content_in y g ≡ content_after op q f (Ok (Fault v)) (content_in x) g
   fault-content y Read q f v t =
       content-put x y f (clean q) (content-clean (y.resident f) (y.unsaved f) _ (omega (arith, t.here)) t.mark ∙ ap clean (page-here y Read q f v t))
       (off y Read q f v t)
@@ -154,7 +155,7 @@ module _ (n : Numbers) (x : Frames) (p : Placed n x) where
       → (y.resident h ≡ x.resident h) × (y.unsaved h ≡ x.unsaved h) × (page_at y h ≡ page_at x h)
   hit-off y op q f t h m = (t.resident_same h, t.mark_off h m, page-at h t.page_same)
 
-  hit-content : (y : Frames) (op : Op) (q f : ℕ) → HitStep op q f x y → (g : ℕ) → content_in y g ≡ content_after op q f Hit (content_in x) g
+  hit-content : (y : Frames) (op : Op) (q f : ℕ) → HitStep op q f x y → (g : ℕ) → content_in y g ≡ content_after op q f (Ok Hit) (content_in x) g
   hit-content y Read q f t =
       at-or-off (λ g. content_in y g ≡ content_in x g) f (content-same x y f (t.resident_same f) t.mark (page-at f t.page_same))
       (λ g m. let o = hit-off y Read q f t g m in content-same x y g o.0 o.1 o.2)
@@ -167,54 +168,54 @@ module _ (n : Numbers) (x : Frames) (p : Placed n x) where
 
   module _ (y : Frames) (op : Op) (q f : ℕ) where
     pub step-placed : (a : Answer) → Step op q f a x y → q < n.N → Placed n y
-    step-placed (Refused e) t l = absurd t
-    step-placed Hit t l = placed-same y t.empty_same t.resident_same t.page_same
-    step-placed (Fault v) t l = fault-placed y op q f v t l
+    step-placed (Err e) t l = absurd t
+    step-placed (Ok Hit) t l = placed-same y t.empty_same t.resident_same t.page_same
+    step-placed (Ok (Fault v)) t l = fault-placed y op q f v t l
 
     pub step-frame : (a : Answer) → Step op q f a x y → f < n.b
-    step-frame (Refused e) t = absurd t
-    step-frame Hit t = frame-below f (omega (arith, t.here))
-    step-frame (Fault v) t = frame-below f t.stands
+    step-frame (Err e) t = absurd t
+    step-frame (Ok Hit) t = frame-below f (omega (arith, t.here))
+    step-frame (Ok (Fault v)) t = frame-below f t.stands
 
     -- its frame has the page then, and every other frame is as it was
     pub step-here : (a : Answer) → Step op q f a x y → (1 ≤ y.resident f) × (page_at y f ≡ q)
-    step-here (Refused e) t = absurd t
-    step-here Hit t = (omega (arith, t.here, t.resident_same f), page-at f t.page_same ∙ t.has)
-    step-here (Fault v) t = (omega (arith, t.here), page-here y op q f v t)
+    step-here (Err e) t = absurd t
+    step-here (Ok Hit) t = (omega (arith, t.here, t.resident_same f), page-at f t.page_same ∙ t.has)
+    step-here (Ok (Fault v)) t = (omega (arith, t.here), page-here y op q f v t)
 
     pub step-off : (a : Answer) → Step op q f a x y → (h : ℕ) → f ≢ h
         → (y.resident h ≡ x.resident h) × (y.unsaved h ≡ x.unsaved h) × (page_at y h ≡ page_at x h)
-    step-off (Refused e) t h m = absurd t
-    step-off Hit t h m = hit-off y op q f t h m
-    step-off (Fault v) t h m = off y op q f v t h m
+    step-off (Err e) t h m = absurd t
+    step-off (Ok Hit) t h m = hit-off y op q f t h m
+    step-off (Ok (Fault v)) t h m = off y op q f v t h m
 
     pub step-victim : (a : Answer) → Step op q f a x y → VictimBelow n.N a
-    step-victim (Refused e) t = absurd t
-    step-victim Hit t = tt
-    step-victim (Fault None) t = tt
-    step-victim (Fault (Clean w)) t = rw t.victim.2 (p.inside f t.victim.0)
-    step-victim (Fault (Dirty w)) t = rw t.victim.1 (p.inside f t.victim.0)
+    step-victim (Err e) t = absurd t
+    step-victim (Ok Hit) t = tt
+    step-victim (Ok (Fault None)) t = tt
+    step-victim (Ok (Fault (Some (Clean w)))) t = rw t.victim.2 (p.inside f t.victim.0)
+    step-victim (Ok (Fault (Some (Dirty w)))) t = rw t.victim.1 (p.inside f t.victim.0)
 
-    absent-in : (v : Victim) → FaultStep op q f v x y → (g : ℕ) → Has q (content_in x g) → ⊥
+    absent-in : (v : Option Victim) → FaultStep op q f v x y → (g : ℕ) → Has q (content_in x g) → ⊥
     absent-in v t g a = let r = has-resident (x.resident g) (x.unsaved g) q _ a in t.absent g r.0 r.1
 
     pub step-right : (a : Answer) → Step op q f a x y → AnswerRight (content_in x) q f a
-    step-right (Refused e) t = t
-    step-right Hit t = resident-has (x.resident f) (x.unsaved f) q _ t.here t.has
-    step-right (Fault None) t = (loose-empty (x.resident f) (x.unsaved f) _ t.victim, absent-in None t)
-    step-right (Fault (Clean w)) t = (loose-clean (x.resident f) (x.unsaved f) _ t.victim.1, absent-in (Clean w) t)
-    step-right (Fault (Dirty w)) t = (resident-has (x.resident f) (x.unsaved f) w _ t.victim.0 (sym t.victim.1), absent-in (Dirty w) t)
+    step-right (Err e) t = t
+    step-right (Ok Hit) t = resident-has (x.resident f) (x.unsaved f) q _ t.here t.has
+    step-right (Ok (Fault None)) t = (loose-empty (x.resident f) (x.unsaved f) _ t.victim, absent-in None t)
+    step-right (Ok (Fault (Some (Clean w)))) t = (loose-clean (x.resident f) (x.unsaved f) _ t.victim.1, absent-in (Some (Clean w)) t)
+    step-right (Ok (Fault (Some (Dirty w)))) t = (resident-has (x.resident f) (x.unsaved f) w _ t.victim.0 (sym t.victim.1), absent-in (Some (Dirty w)) t)
 
     pub step-content : (a : Answer) → Step op q f a x y → (g : ℕ) → content_in y g ≡ content_after op q f a (content_in x) g
-    step-content (Refused e) t = absurd t
-    step-content Hit t = hit-content y op q f t
-    step-content (Fault v) t = fault-content y op q f v t
+    step-content (Err e) t = absurd t
+    step-content (Ok Hit) t = hit-content y op q f t
+    step-content (Ok (Fault v)) t = fault-content y op q f v t
 
     -- the pages of empty frames stay 0
     pub step-blank : (a : Answer) → Step op q f a x y → Blank x → Blank y
-    step-blank (Refused e) t s = absurd t
-    step-blank Hit t s = λ h l. page-at h t.page_same ∙ s h (omega (arith, t.empty_same h))
-    step-blank (Fault v) t s =
+    step-blank (Err e) t s = absurd t
+    step-blank (Ok Hit) t s = λ h l. page-at h t.page_same ∙ s h (omega (arith, t.empty_same h))
+    step-blank (Ok (Fault v)) t s =
         at-or-off (λ h. 1 ≤ y.empty h → page_at y h ≡ 0) f (λ l. absurd (omega (arith, t.gone)))
         (λ h m l. page-off y op q f v t h m ∙ s h (omega (arith, t.empty_off h m)))
 
@@ -283,7 +284,7 @@ pub record Leaves (x : Frames) (e r : ℕ → ℕ) (f : ℕ) : Type 0 where
   pub out : (h : ℕ) → bit (eqb f h) + (e h + r h) ≡ x.empty h + x.resident h
   pub off : (h : ℕ) → f ≢ h → (e h ≡ x.empty h) × (r h ≡ x.resident h)
 
-pub leaves-step : (n : Numbers) (x : Frames) → Placed n x → (y : Frames) (op : Op) (q f : ℕ) (v : Victim) (r : ℕ → ℕ) → Leaves x y.empty r f
+pub leaves-step : (n : Numbers) (x : Frames) → Placed n x → (y : Frames) (op : Op) (q f : ℕ) (v : Option Victim) (r : ℕ → ℕ) → Leaves x y.empty r f
     → ((h : ℕ) → y.resident h ≡ bit (eqb f h) + r h)
     → ((g : ℕ) → 1 ≤ x.resident g → page_at x g ≢ q)
     → VictimOf v (x.resident f) (x.unsaved f) (page_at x f) → y.page ≡ set x.page f q

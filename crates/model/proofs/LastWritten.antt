@@ -7,6 +7,7 @@
 --     last-written                 a read that is served hands out the page as the history has it
 --     drop-zeros                   and zeros where the page was dropped just before
 -- Assumes nothing.
+use Rattle.std.specs.Prelude.{Ok}
 use mathlib.Core.Path.{◌≡◌, refl, sym, ap, ◌∙◌}
 use mathlib.Core.List.{List, [], ◌∷◌}
 use Prim.Native.Nat.{ℕ, ◌+◌, ◌≤◌, ◌<◌}
@@ -22,8 +23,7 @@ use Rattle.model.specs.Run.{Call, read, write, flush, drop, total, World}
 use Rattle.model.specs.Run.{verdict_of, costs_in, outcome_of, brought_in, handed_out, written_in, served, left, left_by, after, after_all, told_by, history}
 use Rattle.model.specs.declared.Op.{Op}
 use Rattle.model.specs.declared.Op.TheVariants.{Read, Write}
-use Rattle.model.specs.declared.Verdict.{Verdict}
-use Rattle.model.specs.declared.Verdict.TheVariants.{Fine}
+use Rattle.model.specs.Words.{Verdict}
 use Rattle.model.proofs.Moves.{move-keeps, cut-here}
 use Rattle.model.proofs.Outcomes.{VictimBelow, AnswerRight, content_after, cleaned_by, keeps-same, read-keeps, read-has, write-keeps, flush-keeps}
 use Rattle.model.proofs.Refusals.{call-cases, read-clear, write-clear, flush-ready, drop-ready, stretch-fits}
@@ -65,7 +65,7 @@ module _ (π : Policy) (ok : Lawful π) where
   pub call-good : (x : World π.State) → ok.Good x.state → (c : Call) → ok.Good (left π x c).state
   call-good x g c = call-cases π x c (λ l. ok.Good l.state) (λ y e. g) (good-served c)
     where
-      good-served : (d : Call) → verdict_of π x d ≡ Fine → ok.Good (served π x d).state
+      good-served : (d : Call) → verdict_of π x d ≡ Ok tt → ok.Good (served π x d).state
       good-served (read t q out) e = let a = read-clear π x t q out e in (ok.request Read (costs_in π x t) x.state q g a.2 a.1.more).good
       good-served (write t q start bytes) e =
           let a = write-clear π x t q start bytes e in (ok.request Write (costs_in π x t) x.state q g a.2 a.1.more).good
@@ -81,7 +81,7 @@ module _ (π : Policy) (ok : Lawful π) where
   pub call-numbers : (x : World π.State) → ok.Good x.state → (c : Call) → π.numbers (left π x c).state ≡ π.numbers x.state
   call-numbers x g c = call-cases π x c (λ l. π.numbers l.state ≡ π.numbers x.state) (λ y e. refl) (same-served c)
     where
-      same-served : (d : Call) → verdict_of π x d ≡ Fine → π.numbers (served π x d).state ≡ π.numbers x.state
+      same-served : (d : Call) → verdict_of π x d ≡ Ok tt → π.numbers (served π x d).state ≡ π.numbers x.state
       same-served (read t q out) e = let a = read-clear π x t q out e in (ok.request Read (costs_in π x t) x.state q g a.2 a.1.more).same
       same-served (write t q start bytes) e =
           let a = write-clear π x t q start bytes e in (ok.request Write (costs_in π x t) x.state q g a.2 a.1.more).same
@@ -161,8 +161,8 @@ module _ (π : Policy) (ok : Lawful π) where
         call-cases π x c (λ l. Right (record { state = l.state; memory = l.memory }) (told_by π (verdict_of π x c) x c h))
         (λ y e. rw e r) (λ e. rw e (right-served c e))
       where
-        right-served : (d : Call) → verdict_of π x d ≡ Fine → Right (record { state = (served π x d).state; memory = (served π x d).memory })
-            (told_by π Fine x d h)
+        right-served : (d : Call) → verdict_of π x d ≡ Ok tt → Right (record { state = (served π x d).state; memory = (served π x d).memory })
+            (told_by π (Ok tt) x d h)
         right-served (read t q out) e = let a = read-clear π x t q out e in read-right t q a.2 a.1.more
         right-served (write t q start bytes) e =
             let a = write-clear π x t q start bytes e in
@@ -176,15 +176,15 @@ module _ (π : Policy) (ok : Lawful π) where
   run-right (c ∷ cs) x h r = run-right cs (after π x c) (told_by π (verdict_of π x c) x c h) (call-right x h r c)
 
   pub last-written : (x : World π.State) (h : History) → Right x h → (t : Times) (q : ℕ) (out : List ℕ)
-      → verdict_of π x (read t q out) ≡ Fine → (left π x (read t q out)).out ≡ h q
+      → verdict_of π x (read t q out) ≡ Ok tt → (left π x (read t q out)).out ≡ h q
   unfolding left
   last-written x h r t q out e =
       let a = read-clear π x t q out e in
       ap (λ (v : Verdict). (left_by π v x (read t q out)).out) e ∙ read-hands-out x h r t q a.2 a.1.more
 
   -- a page that was dropped just before is read as zeros
-  pub drop-zeros : (x : World π.State) (h : History) → Right x h → (t : Times) (q : ℕ) (out : List ℕ) → verdict_of π x (drop q) ≡ Fine
-      → verdict_of π (after π x (drop q)) (read t q out) ≡ Fine → (left π (after π x (drop q)) (read t q out)).out ≡ replicate (π.numbers x.state).P 0
+  pub drop-zeros : (x : World π.State) (h : History) → Right x h → (t : Times) (q : ℕ) (out : List ℕ) → verdict_of π x (drop q) ≡ Ok tt
+      → verdict_of π (after π x (drop q)) (read t q out) ≡ Ok tt → (left π (after π x (drop q)) (read t q out)).out ≡ replicate (π.numbers x.state).P 0
   drop-zeros x h r t q out d e =
       let a = drop-ready π x q d in
       last-written (after π x (drop q)) (cut (π.numbers x.state).P q h) (rw d at (call-right x h r (drop q))) t q out e

@@ -1,9 +1,9 @@
 -- The test on the numbers says what the inequalities say; and what numbers are on a drive, which they may name or not. Assumes nothing.
-use mathlib.Core.Path.{◌≡◌, refl, sym, ◌∙◌}
-use mathlib.Core.Bool.{Bool, true, false, ◌&&◌, false≢true, cond as if-else}
+use mathlib.Core.Path.{◌≡◌, refl}
+use mathlib.Core.Bool.{Bool, true, false, ◌&&◌, cond as if-else}
 use Prim.Native.Nat.{ℕ, ◌≤◌}
 use native.Mathlib.Omega.{arith}
-use lib.Dec.{eqb, leb}
+use lib.Dec.{eqb}
 use borrow.Author.Tests.{leb-true, le-leb, eqb-true, eq-eqb}
 use Rattle.model.specs.Numbers.{Numbers, between, in_limits, Limits, with_costs, on_drive}
 use Rattle.model.proofs.Refusals.{and-both}
@@ -49,22 +49,6 @@ limits-in_limits n l =
     (both-and (means-between 16 n.P 4096 l.P_low l.P_high)
     (both-and (means-between 1 n.N 65536 l.N_low l.N_high)
     (both-and (means-between 1 n.r 1000 l.r_low l.r_high) (means-between 1 n.w 1000 l.w_low l.w_high))))
-
--- ---- the answers of a test that asks one limit after the other: a no where one is passed, and behind the others the last
-
-pub limits-refused : (n : Numbers) → (Limits n → ⊥) → false ≡ in_limits n
-limits-refused n wrong = go (in_limits n) refl
-  where
-    go : (t : Bool) → in_limits n ≡ t → false ≡ t
-    go true e = absurd (wrong (in_limits-limits n e))
-    go false e = refl
-
-pub limits-last : (n : Numbers) → (n.w ≤ 1000 → Limits n) → leb n.w 1000 ≡ in_limits n
-limits-last n rest = go (leb n.w 1000) refl
-  where
-    go : (t : Bool) → leb n.w 1000 ≡ t → t ≡ in_limits n
-    go true e = sym (limits-in_limits n (rest (leb-true n.w 1000 e)))
-    go false e = limits-refused n (λ l. false≢true (sym e ∙ le-leb n.w 1000 l.w_high))
 
 -- ---- numbers that name no drive, and those that do
 

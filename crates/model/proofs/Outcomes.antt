@@ -2,6 +2,7 @@
 -- a dirty victim; a write then edits the page in its frame; a flush writes back from the last to the first. So they keep every page as its history says,
 -- if the policy's answer is right about what the frame holds.
 -- Assumes nothing.
+use Rattle.std.specs.Prelude.{Option, Some, None, Ok, Err}
 use mathlib.Core.Path.{◌≡◌, refl, sym, ap, ◌∙◌, subst}
 use mathlib.Core.Logic.{◌≢◌, dite}
 use mathlib.Core.List.{List, [], ◌∷◌}
@@ -18,32 +19,32 @@ use Rattle.model.specs.Moves.{Content, clean, dirty, Has, Loose, Buffer, put, lo
 use Rattle.model.specs.declared.Op.{Op}
 use Rattle.model.specs.declared.Op.TheVariants.{Read, Write}
 use Rattle.model.specs.declared.Victim.{Victim}
-use Rattle.model.specs.declared.Victim.TheVariants.{None, Clean, Dirty}
-use Rattle.model.specs.declared.Answer.{Answer}
-use Rattle.model.specs.declared.Answer.TheVariants.{Refused, Hit, Fault}
+use Rattle.model.specs.declared.Victim.TheVariants.{Clean, Dirty}
+use Rattle.model.specs.Words.{Answer}
+use Rattle.model.specs.declared.Access.TheVariants.{Hit, Fault}
 use Rattle.model.proofs.Moves.{put-same, put-other, at-or-off, move-keeps}
 
 -- a victim that an answer names is a page of the store
 abbrev pub VictimBelow : ℕ → Answer → Type 0
-VictimBelow N (Refused x) = Unit {0}
-VictimBelow N Hit = Unit {0}
-VictimBelow N (Fault None) = Unit {0}
-VictimBelow N (Fault (Clean q)) = q < N
-VictimBelow N (Fault (Dirty q)) = q < N
+VictimBelow N (Err x) = Unit {0}
+VictimBelow N (Ok Hit) = Unit {0}
+VictimBelow N (Ok (Fault None)) = Unit {0}
+VictimBelow N (Ok (Fault (Some (Clean q)))) = q < N
+VictimBelow N (Ok (Fault (Some (Dirty q)))) = q < N
 
 -- the answer to a request for page q, served in frame f, is right about what frames hold
 abbrev pub AnswerRight : (ℕ → Content) → ℕ → ℕ → Answer → Type 0
-AnswerRight h q f (Refused x) = ⊥
-AnswerRight h q f Hit = Has q (h f)
-AnswerRight h q f (Fault None) = Loose (h f) × ((g : ℕ) → Has q (h g) → ⊥)
-AnswerRight h q f (Fault (Clean p)) = Loose (h f) × ((g : ℕ) → Has q (h g) → ⊥)
-AnswerRight h q f (Fault (Dirty p)) = Has p (h f) × ((g : ℕ) → Has q (h g) → ⊥)
+AnswerRight h q f (Err x) = ⊥
+AnswerRight h q f (Ok Hit) = Has q (h f)
+AnswerRight h q f (Ok (Fault None)) = Loose (h f) × ((g : ℕ) → Has q (h g) → ⊥)
+AnswerRight h q f (Ok (Fault (Some (Clean p)))) = Loose (h f) × ((g : ℕ) → Has q (h g) → ⊥)
+AnswerRight h q f (Ok (Fault (Some (Dirty p)))) = Has p (h f) × ((g : ℕ) → Has q (h g) → ⊥)
 
 -- what frames hold after a request for page q that was served in frame f
 abbrev pub content_after : Op → ℕ → ℕ → Answer → (ℕ → Content) → ℕ → Content
-content_after Read q f (Refused x) h = h
-content_after Read q f Hit h = h
-content_after Read q f (Fault v) h = put f (clean q) h
+content_after Read q f (Err x) h = h
+content_after Read q f (Ok Hit) h = h
+content_after Read q f (Ok (Fault v)) h = put f (clean q) h
 content_after Write q f a h = put f (dirty q) h
 
 -- and after a flush of the frames of a list
@@ -62,11 +63,11 @@ put-put f a b h =
     (λ g n. put-other f a (put f b h) g n ∙ put-other f b h g n ∙ sym (put-other f a h g n))
 
 module _ (n : Numbers) (x : Buffer) (h : History) (k : Keeps n x h) (q f : ℕ) (ql : q < n.N) (fb : f < n.b) where
-  fault-keeps : (v : Victim) → AnswerRight x.content q f (Fault v) → VictimBelow n.N (Fault v)
-      → Keeps n (record { content = put f (clean q) x.content; memory = brought n.P f q (Fault v) x.memory }) h
+  fault-keeps : (v : Option Victim) → AnswerRight x.content q f (Ok (Fault v)) → VictimBelow n.N (Ok (Fault v))
+      → Keeps n (record { content = put f (clean q) x.content; memory = brought n.P f q (Ok (Fault v)) x.memory }) h
   fault-keeps None ok below = move-keeps n x h k (load q f) (ql, fb, ok.0, ok.1)
-  fault-keeps (Clean p) ok below = move-keeps n x h k (load q f) (ql, fb, ok.0, ok.1)
-  fault-keeps (Dirty p) ok below =
+  fault-keeps (Some (Clean p)) ok below = move-keeps n x h k (load q f) (ql, fb, ok.0, ok.1)
+  fault-keeps (Some (Dirty p)) ok below =
       keeps-same n _ _ _ h (put-put f (clean q) (clean p) x.content)
       (move-keeps n _ h (move-keeps n x h k (write_back p f) (below, fb, ok.0)) (load q f) (
         ql,
@@ -79,21 +80,21 @@ module _ (n : Numbers) (x : Buffer) (h : History) (k : Keeps n x h) (q f : ℕ) 
 
   pub read-keeps : (a : Answer) → AnswerRight x.content q f a → VictimBelow n.N a
       → Keeps n (record { content = content_after Read q f a x.content; memory = brought n.P f q a x.memory }) h
-  read-keeps (Refused y) ok below = absurd ok
-  read-keeps Hit ok below = k
-  read-keeps (Fault v) ok below = fault-keeps v ok below
+  read-keeps (Err y) ok below = absurd ok
+  read-keeps (Ok Hit) ok below = k
+  read-keeps (Ok (Fault v)) ok below = fault-keeps v ok below
 
   pub read-has : (a : Answer) → AnswerRight x.content q f a → Has q (content_after Read q f a x.content f)
-  read-has (Refused y) ok = absurd ok
-  read-has Hit ok = ok
-  read-has (Fault v) ok = rw (put-same f (clean q) x.content) refl
+  read-has (Err y) ok = absurd ok
+  read-has (Ok Hit) ok = ok
+  read-has (Ok (Fault v)) ok = rw (put-same f (clean q) x.content) refl
 
   pub write-keeps : (start : ℕ) (bytes : List ℕ) → start + length bytes ≤ n.P → (a : Answer) → AnswerRight x.content q f a → VictimBelow n.N a
       → Keeps n (record { content = content_after Write q f a x.content; memory = overlaid n.P f start bytes (brought n.P f q a x.memory) })
       (laid q start bytes h)
-  write-keeps start bytes fit (Refused y) ok below = absurd ok
-  write-keeps start bytes fit Hit ok below = move-keeps n x h k (edit q f start bytes) (fb, fit, ok)
-  write-keeps start bytes fit (Fault v) ok below =
+  write-keeps start bytes fit (Err y) ok below = absurd ok
+  write-keeps start bytes fit (Ok Hit) ok below = move-keeps n x h k (edit q f start bytes) (fb, fit, ok)
+  write-keeps start bytes fit (Ok (Fault v)) ok below =
       keeps-same n _ _ _ _ (put-put f (dirty q) (clean q) x.content)
       (move-keeps n _ h (fault-keeps v ok below) (edit q f start bytes) (fb, fit, rw (put-same f (clean q) x.content) refl))
 

@@ -3,6 +3,7 @@
 --     request-tracks, flush-tracks, drop-tracks, nothing-tracks    one call
 --     tracks-append    one after the other
 -- Assumes nothing.
+use Rattle.std.specs.Prelude.{Option, Some, None}
 use mathlib.Core.Path.{◌≡◌, refl, sym, ap, ◌∙◌}
 use mathlib.Core.Logic.{◌≢◌, dite}
 use mathlib.Core.List.{List, [], ◌∷◌, ◌++◌}
@@ -27,7 +28,7 @@ use Rattle.model.specs.Request.{locate, chosen, taken, fault_into, request_at, r
 use Rattle.model.specs.declared.Op.{Op}
 use Rattle.model.specs.declared.Op.TheVariants.{Read, Write}
 use Rattle.model.specs.declared.Place.{Place}
-use Rattle.model.specs.declared.Place.TheVariants.{InClean, InDirty, Absent}
+use Rattle.model.specs.declared.Place.TheVariants.{InClean, InDirty}
 use Rattle.model.specs.declared.Choice.{Choice}
 use Rattle.model.specs.declared.Choice.TheVariants.{OfEmpty, OfClean, OfDirty}
 use Rattle.model.proofs.Frames.{step-frame, step-here, step-off}
@@ -59,13 +60,13 @@ fault-given Write s q (OfEmpty i) = record { reference = refl; served = refl }
 fault-given Write s q (OfClean i) = record { reference = refl; served = refl }
 fault-given Write s q (OfDirty i) = record { reference = refl; served = refl }
 
-place-given : (op : Op) (k : Costs) (s : State) (q : ℕ) (x : Place) → Given s (request_at op k s q x)
-place-given Read k s q (InClean i) = record { reference = refl; served = refl }
-place-given Write k s q (InClean i) = record { reference = refl; served = refl }
-place-given Write k s q (InDirty i) = record { reference = refl; served = refl }
-place-given Read k s q (InDirty i) = record { reference = refl; served = refl }
-place-given Read k s q Absent = fault-given Read s q (chosen s)
-place-given Write k s q Absent = fault-given Write s q (chosen s)
+place-given : (op : Op) (k : Costs) (s : State) (q : ℕ) (x : Option Place) → Given s (request_at op k s q x)
+place-given Read k s q (Some (InClean i)) = record { reference = refl; served = refl }
+place-given Write k s q (Some (InClean i)) = record { reference = refl; served = refl }
+place-given Write k s q (Some (InDirty i)) = record { reference = refl; served = refl }
+place-given Read k s q (Some (InDirty i)) = record { reference = refl; served = refl }
+place-given Read k s q None = fault-given Read s q (chosen s)
+place-given Write k s q None = fault-given Write s q (chosen s)
 
 module _ (s : State) (w : Whole s) where
   pub request-tracks : (op : Op) (k : Costs) (q : ℕ) → q < s.numbers.N → s.counts.served < most_served
@@ -126,10 +127,10 @@ module _ (s : State) (w : Whole s) where
                 ∙ ap last (sym (get_or-set_other s.page f g 0 0 (λ e. m (sym e))));
           }
 
-      go : (x : Place) → PlaceRight s q x → Tracks s (dropped_at s x) (none ∷ [])
-      go (InClean i) p = vacated-tracks (remove_at i s.lists.C) s.lists.D (get_or s.lists.C i 0) (λ h. omega (arith, count-remove_at h s.lists.C i p.0))
-      go (InDirty i) p = vacated-tracks s.lists.C (remove_at i s.lists.D) (get_or s.lists.D i 0) (λ h. omega (arith, count-remove_at h s.lists.D i p.0))
-      go Absent p = record { served = refl; tracked = λ last h. h }
+      go : (x : Option Place) → PlaceRight s q x → Tracks s (dropped_at s x) (none ∷ [])
+      go (Some (InClean i)) p = vacated-tracks (remove_at i s.lists.C) s.lists.D (get_or s.lists.C i 0) (λ h. omega (arith, count-remove_at h s.lists.C i p.0))
+      go (Some (InDirty i)) p = vacated-tracks s.lists.C (remove_at i s.lists.D) (get_or s.lists.D i 0) (λ h. omega (arith, count-remove_at h s.lists.D i p.0))
+      go None p = record { served = refl; tracked = λ last h. h }
 
 pub nothing-tracks : (s : State) → Tracks s s []
 nothing-tracks s = record { served = sym (add-zero s.counts.served); tracked = λ last h. h }

@@ -3,6 +3,7 @@
 --     tail-taken    what a fault does where E has a last frame
 --     drop-tail    what E is after a drop
 -- Assumes nothing.
+use Rattle.std.specs.Prelude.{Option, Some, None, Ok}
 use mathlib.Core.Path.{◌≡◌, refl, sym, ap, ◌∙◌, subst}
 use mathlib.Core.List.{List, [], ◌∷◌, ◌++◌, append-nil}
 use Prim.Native.Nat.{ℕ, ◌+◌, ◌≤◌, ◌<◌}
@@ -22,11 +23,10 @@ use Rattle.model.specs.Request.{locate, chosen_by, chosen, taken, fault_into, fa
 use Rattle.model.specs.declared.Op.{Op}
 use Rattle.model.specs.declared.Op.TheVariants.{Read, Write}
 use Rattle.model.specs.declared.Place.{Place}
-use Rattle.model.specs.declared.Place.TheVariants.{InClean, InDirty, Absent}
+use Rattle.model.specs.declared.Place.TheVariants.{InClean, InDirty}
 use Rattle.model.specs.declared.Choice.{Choice}
 use Rattle.model.specs.declared.Choice.TheVariants.{OfEmpty}
-use Rattle.model.specs.declared.Victim.TheVariants.{None}
-use Rattle.model.specs.declared.Answer.TheVariants.{Fault}
+use Rattle.model.specs.declared.Access.TheVariants.{Fault}
 use Rattle.model.proofs.Good.{standing-below}
 use Rattle.model.proofs.Steps.{PlaceRight, locate-right, Whole}
 
@@ -35,7 +35,7 @@ pub record Takes (q f : ℕ) (E : List ℕ) (o : Outcome State) : Type 0 where
   pub frame : o.frame ≡ f
   pub here : 1 ≤ resident o.state.lists f
   pub page : page_in o.state f ≡ q
-  pub answer : o.answer ≡ Fault None
+  pub answer : o.answer ≡ Ok (Fault None)
   pub rest : o.state.lists.E ≡ E
 
 fault-taken : (op : Op) (s : State) (q f : ℕ) (E : List ℕ) → s.lists.E ≡ E ++ (f ∷ []) → f < length s.page → Takes q f E (faulted op s q)
@@ -54,8 +54,8 @@ fault-taken op s q f E e l =
 
 module _ (s : State) (w : Whole s) where
   -- "so the next fault uses it"
-  pub tail-taken : (op : Op) (k : Costs) (q f : ℕ) (E : List ℕ) → s.lists.E ≡ E ++ (f ∷ []) → locate s q ≡ Absent → Takes q f E (request op k s q)
-  tail-taken op k q f E e a = subst (λ (x : Place). Takes q f E (request_at op k s q x)) (sym a) (go op)
+  pub tail-taken : (op : Op) (k : Costs) (q f : ℕ) (E : List ℕ) → s.lists.E ≡ E ++ (f ∷ []) → locate s q ≡ None → Takes q f E (request op k s q)
+  tail-taken op k q f E e a = subst (λ (x : Option Place). Takes q f E (request_at op k s q x)) (sym a) (go op)
     where
       -- it stands in E
       below : f < length s.page
@@ -64,7 +64,7 @@ module _ (s : State) (w : Whole s) where
           let here : 1 ≤ standing s.lists f = omega (arith, c, count-append f E (f ∷ []), bit-same f) in
           omega (arith, w.good.placed.paged, standing-below s w.good f here)
 
-      go : (o : Op) → Takes q f E (request_at o k s q Absent)
+      go : (o : Op) → Takes q f E (request_at o k s q None)
       go Read = fault-taken Read s q f E e below
       go Write = fault-taken Write s q f E e below
 
@@ -75,9 +75,9 @@ module _ (s : State) (w : Whole s) where
       alone : (g : ℕ) → 1 ≤ resident s.lists g → page_in s g ≡ q → g ≡ f
       alone g l e = w.good.placed.apart g f l here (e ∙ sym has)
 
-      go : (x : Place) → PlaceRight s q x → (dropped_at s x).lists.E ≡ s.lists.E ++ (f ∷ [])
-      go (InClean i) p =
+      go : (x : Option Place) → PlaceRight s q x → (dropped_at s x).lists.E ≡ s.lists.E ++ (f ∷ [])
+      go (Some (InClean i)) p =
           let c = count-here s.lists.C i p.0 in ap (λ (g : ℕ). s.lists.E ++ (g ∷ [])) (alone (get_or s.lists.C i 0) (omega arith) p.1)
-      go (InDirty i) p =
+      go (Some (InDirty i)) p =
           let c = count-here s.lists.D i p.0 in ap (λ (g : ℕ). s.lists.E ++ (g ∷ [])) (alone (get_or s.lists.D i 0) (omega arith) p.1)
-      go Absent p = absurd (p f here has)
+      go None p = absurd (p f here has)

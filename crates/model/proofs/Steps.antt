@@ -6,6 +6,7 @@
 --     request-stepped, flush-stepped, drop-stepped    what a request, a flush and a drop do to frames, and that the state stays good
 --     states-framed    so CASA's states are framed
 -- Assumes nothing.
+use Rattle.std.specs.Prelude.{Option, Some, None}
 use mathlib.Core.Path.{◌≡◌, refl, sym, subst}
 use mathlib.Core.Bool.{Bool, true, false, cond as if-else}
 use mathlib.Core.Logic.{◌≢◌, dite}
@@ -20,8 +21,6 @@ use borrow.Author.Tests.{ltb-true, ltb-false}
 use Rattle.order.specs.Lists.{remove_at, move_to_front}
 use Rattle.order.specs.Count.{bit, count}
 use Rattle.order.specs.Find.{find_from}
-use Rattle.order.specs.declared.Found.{Found}
-use Rattle.order.specs.declared.Found.TheVariants.{At, Nowhere}
 use Rattle.order.proofs.Search.{find_from-below, find_from-at, find_from-none}
 use Rattle.order.specs.Merge.{Ordered}
 use Rattle.order.proofs.Count.{bit-same, bit-other, count-append, count-remove_at, count-move_to_front, count-other, count-alone, count-here}
@@ -38,11 +37,11 @@ use Rattle.model.specs.Request.{hit, fault_into, faulted, request_at, request, f
 use Rattle.model.specs.declared.Op.{Op}
 use Rattle.model.specs.declared.Op.TheVariants.{Read, Write}
 use Rattle.model.specs.declared.Place.{Place}
-use Rattle.model.specs.declared.Place.TheVariants.{InClean, InDirty, Absent}
+use Rattle.model.specs.declared.Place.TheVariants.{InClean, InDirty}
 use Rattle.model.specs.declared.Choice.{Choice}
 use Rattle.model.specs.declared.Choice.TheVariants.{OfEmpty, OfClean, OfDirty}
 use Rattle.model.specs.declared.Victim.{Victim}
-use Rattle.model.specs.declared.Victim.TheVariants.{None, Clean, Dirty}
+use Rattle.model.specs.declared.Victim.TheVariants.{Clean, Dirty}
 use Rattle.model.proofs.Frames.{placed-same, step-placed, step-blank, drop-placed, drop-blank, counts-in, Leaves, leaves-step}
 use Rattle.model.proofs.Framed.{Stepped, FlushStepped, DropStepped, Framed}
 use Rattle.model.proofs.Good.{standing-below, standing-once, lengths-sum}
@@ -51,18 +50,18 @@ use Rattle.model.proofs.Numbered.{clean-latest, dirty-latest, numbered-latest, n
 -- ---- where a page is found
 
 -- a page that is found is in the frame at that place; one that is absent is in no frame
-abbrev pub PlaceRight : State → ℕ → Place → Type 0
-PlaceRight s q (InClean i) = (i < length s.lists.C) × (page_in s (get_or s.lists.C i 0) ≡ q)
-PlaceRight s q (InDirty i) = (i < length s.lists.D) × (page_in s (get_or s.lists.D i 0) ≡ q)
-PlaceRight s q Absent = (f : ℕ) → 1 ≤ resident s.lists f → page_in s f ≢ q
+abbrev pub PlaceRight : State → ℕ → Option Place → Type 0
+PlaceRight s q (Some (InClean i)) = (i < length s.lists.C) × (page_in s (get_or s.lists.C i 0) ≡ q)
+PlaceRight s q (Some (InDirty i)) = (i < length s.lists.D) × (page_in s (get_or s.lists.D i 0) ≡ q)
+PlaceRight s q None = (f : ℕ) → 1 ≤ resident s.lists f → page_in s f ≢ q
 
 pub locate-right : (s : State) (q : ℕ) → PlaceRight s q (locate s q)
 locate-right s q = go (find_from 0 s.page q s.lists.C) (find_from 0 s.page q s.lists.D) refl refl
   where
-    go : (x y : Found) → find_from 0 s.page q s.lists.C ≡ x → find_from 0 s.page q s.lists.D ≡ y → PlaceRight s q (place_by x y)
-    go (At i) y e d = (omega (arith, find_from-below s.page q 0 s.lists.C i e), find_from-at s.page q 0 s.lists.C i i (omega arith) e)
-    go Nowhere (At i) e d = (omega (arith, find_from-below s.page q 0 s.lists.D i d), find_from-at s.page q 0 s.lists.D i i (omega arith) d)
-    go Nowhere Nowhere e d =
+    go : (x y : Option ℕ) → find_from 0 s.page q s.lists.C ≡ x → find_from 0 s.page q s.lists.D ≡ y → PlaceRight s q (place_by x y)
+    go (Some i) y e d = (omega (arith, find_from-below s.page q 0 s.lists.C i e), find_from-at s.page q 0 s.lists.C i i (omega arith) e)
+    go None (Some i) e d = (omega (arith, find_from-below s.page q 0 s.lists.D i d), find_from-at s.page q 0 s.lists.D i i (omega arith) d)
+    go None None e d =
         λ f h. dite (dec_lt 0 (count f s.lists.C)) (λ l. find_from-none s.page q 0 s.lists.C e f l)
         (λ n. find_from-none s.page q 0 s.lists.D d f (omega arith))
 
@@ -136,14 +135,14 @@ module _ (s : State) (w : Whole s) (q : ℕ) (q-inside : q < s.numbers.N) (more 
   -- ---- a fault: frame f leaves its list, which makes the lists E, C and D, and comes back to C or D
 
   module _ (away : (f : ℕ) → 1 ≤ resident s.lists f → page_in s f ≢ q) where
-    module _ (E C D : List ℕ) (f : ℕ) (v : Victim) (l : Leaves (frames_of s) (λ h. count h E) (λ h. count h C + count h D) f)
+    module _ (E C D : List ℕ) (f : ℕ) (v : Option Victim) (l : Leaves (frames_of s) (λ h. count h E) (λ h. count h C + count h D) f)
         (dirty-off : (h : ℕ) → f ≢ h → count h D ≡ count h s.lists.D)
         (victim : VictimOf v (resident s.lists f) (count f s.lists.D) (page_in s f))
         (ordered : Ordered s.reference s.counts.served C D) where
-      few : (v : Victim) → writes_of v ≤ s.numbers.b
+      few : (v : Option Victim) → writes_of v ≤ s.numbers.b
       few None = omega arith
-      few (Clean p) = omega arith
-      few (Dirty p) = omega (arith, w.good.limits.b_low)
+      few (Some (Clean p)) = omega arith
+      few (Some (Dirty p)) = omega (arith, w.good.limits.b_low)
 
       -- it stands in no list between
       out : count f E + (count f C + count f D) ≡ 0
@@ -185,13 +184,13 @@ module _ (s : State) (w : Whole s) (q : ℕ) (q-inside : q < s.numbers.N) (more 
     taken-stepped op (OfClean i) h =
         let f : ℕ = get_or s.lists.C i 0 in
         let c = count-here s.lists.C i h in
-        back-stepped s.lists.E (remove_at i s.lists.C) s.lists.D f (Clean (page_in s f))
+        back-stepped s.lists.E (remove_at i s.lists.C) s.lists.D f (Some (Clean (page_in s f)))
         (record { out = λ g. omega (arith, count-remove_at g s.lists.C i h); off = λ g n. (refl, omega (arith, count-other g s.lists.C i h n)) })
         (λ g n. refl) (omega arith, omega (arith, standing-once s w.good f), refl) (ordered-remove_at w.good.numbered.ordered i h) op
     taken-stepped op (OfDirty i) h =
         let f : ℕ = get_or s.lists.D i 0 in
         let c = count-here s.lists.D i h in
-        back-stepped s.lists.E s.lists.C (remove_at i s.lists.D) f (Dirty (page_in s f))
+        back-stepped s.lists.E s.lists.C (remove_at i s.lists.D) f (Some (Dirty (page_in s f)))
         (record { out = λ g. omega (arith, count-remove_at g s.lists.D i h); off = λ g n. (refl, omega (arith, count-other g s.lists.D i h n)) })
         (λ g n. count-other g s.lists.D i h n) (omega arith, refl) (ordered-swap (ordered-remove_at (ordered-swap w.good.numbered.ordered) i h)) op
 
@@ -200,7 +199,7 @@ module _ (s : State) (w : Whole s) (q : ℕ) (q-inside : q < s.numbers.N) (more 
   pub request-stepped : (op : Op) (k : Costs) → CasaStepped op s q (request op k s q)
   request-stepped op k = go op (locate s q) (locate-right s q)
     where
-      absent : (o : Op) → PlaceRight s q Absent → CasaStepped o s q (faulted o s q)
+      absent : (o : Op) → PlaceRight s q None → CasaStepped o s q (faulted o s q)
       absent o p =
           taken-stepped p o (chosen s)
           (chosen-in (length s.lists.E) (length s.lists.C) (length s.lists.D) s.target
@@ -226,33 +225,33 @@ module _ (s : State) (w : Whole s) (q : ℕ) (q-inside : q < s.numbers.N) (more 
           let c = count-here s.lists.D i h in
           dirty-latest (ordered-swap (ordered-remove_at (ordered-swap o) i h)) f (numbered-frame f (omega arith)) (dirty-alone i h).1 (dirty-alone i h).0
 
-      go : (op : Op) (x : Place) → PlaceRight s q x → CasaStepped op s q (request_at op k s q x)
-      go Read (InClean i) p =
+      go : (op : Op) (x : Option Place) → PlaceRight s q x → CasaStepped op s q (request_at op k s q x)
+      go Read (Some (InClean i)) p =
           let c = count-here s.lists.C i p.0 in
           hit-stepped Read (move_to_front i s.lists.C) s.lists.D (adjust s.numbers.b s.target (up k (length s.lists.C) (length s.lists.D)))
           _ (omega arith) p.1 (λ h. omega (arith, count-move_to_front h s.lists.C i p.0)) refl (λ h n. refl)
           (clean-latest (ordered-remove_at o i p.0) _ (numbered-frame _ (omega arith)) (clean-alone i p.0).0 (clean-alone i p.0).1) (min-le_right _ _)
-      go Write (InClean i) p =
+      go Write (Some (InClean i)) p =
           let f : ℕ = get_or s.lists.C i 0 in
           let c = count-here s.lists.C i p.0 in
           hit-stepped Write (remove_at i s.lists.C) (f ∷ s.lists.D) s.target f
           (omega arith) p.1 (λ h. omega (arith, count-remove_at h s.lists.C i p.0)) (omega (arith, bit-same f)) (λ h n. omega (arith, bit-other f h n))
           (dirty-latest (ordered-remove_at o i p.0) f (numbered-frame f (omega arith)) (clean-alone i p.0).0 (clean-alone i p.0).1) w.good.target_high
-      go Write (InDirty i) p =
+      go Write (Some (InDirty i)) p =
           let f : ℕ = get_or s.lists.D i 0 in
           let c = count-here s.lists.D i p.0 in
           hit-stepped Write s.lists.C (move_to_front i s.lists.D)
           (adjust s.numbers.b s.target (down k (length s.lists.C) (length s.lists.D))) f
           (omega arith) p.1 (λ h. omega (arith, count-move_to_front h s.lists.D i p.0)) (omega (arith, bit-same f))
           (λ h n. count-move_to_front h s.lists.D i p.0) (dirty-front i p.0) (omega (arith, w.good.target_high))
-      go Read (InDirty i) p =
+      go Read (Some (InDirty i)) p =
           let f : ℕ = get_or s.lists.D i 0 in
           let c = count-here s.lists.D i p.0 in
           hit-stepped Read s.lists.C (move_to_front i s.lists.D) s.target f
           (omega arith) p.1 (λ h. omega (arith, count-move_to_front h s.lists.D i p.0)) (count-move_to_front f s.lists.D i p.0)
           (λ h n. count-move_to_front h s.lists.D i p.0) (dirty-front i p.0) w.good.target_high
-      go Read Absent p = absent Read p
-      go Write Absent p = absent Write p
+      go Read None p = absent Read p
+      go Write None p = absent Write p
 
 -- ---- a flush
 
@@ -331,15 +330,15 @@ module _ (s : State) (w : Whole s) (q : ℕ) (more : s.counts.served < most_serv
       o : Ordered s.reference s.counts.served s.lists.C s.lists.D
       o = w.good.numbered.ordered
 
-      go : (x : Place) → PlaceRight s q x → CasaDropped (dropped_at s x)
-      go (InClean i) p =
+      go : (x : Option Place) → PlaceRight s q x → CasaDropped (dropped_at s x)
+      go (Some (InClean i)) p =
           vacated-stepped (remove_at i s.lists.C) s.lists.D (get_or s.lists.C i 0)
           (λ h. omega (arith, count-remove_at h s.lists.C i p.0)) p.1 (λ h n. refl) (ordered-remove_at o i p.0)
-      go (InDirty i) p =
+      go (Some (InDirty i)) p =
           vacated-stepped s.lists.C (remove_at i s.lists.D) (get_or s.lists.D i 0)
           (λ h. omega (arith, count-remove_at h s.lists.D i p.0)) p.1 (λ h n. count-other h s.lists.D i p.0 n)
           (ordered-swap (ordered-remove_at (ordered-swap o) i p.0))
-      go Absent p =
+      go None p =
           after-drop (counted 0 1 s)
           (misses (record { absent = p; empty_same = λ h. refl; resident_same = λ h. refl; page_same = refl; mark_same = λ h. refl }))
           refl (numbered-later w.good.numbered) refl refl

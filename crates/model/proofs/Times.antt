@@ -5,6 +5,7 @@
 --     costs-right           costs in force are from 1 to 2,147,450,880
 --     read-opened, write-opened    until both windows are full, the form is the call without it
 -- Assumes nothing.
+use Rattle.std.specs.Prelude.{Ok, Err}
 use mathlib.Core.Path.{◌≡◌, refl, ap, ◌∙◌}
 use mathlib.Core.Bool.{Bool, true, false, not, ◌&&◌, cond as if-else}
 use mathlib.Core.List.{List}
@@ -21,8 +22,7 @@ use Rattle.model.specs.declared.Op.{Op}
 use Rattle.model.specs.declared.Op.TheVariants.{Read, Write}
 use Rattle.model.specs.declared.Window.{Window}
 use Rattle.model.specs.declared.Kept.{Kept}
-use Rattle.model.specs.declared.Verdict.{Verdict}
-use Rattle.model.specs.declared.Verdict.TheVariants.{Fine, Refused}
+use Rattle.model.specs.Words.{Verdict}
 use Rattle.model.proofs.Refusals.{and-both}
 use Rattle.model.proofs.Limits.{both-and, between-means, means-between}
 
@@ -151,8 +151,8 @@ module _ (π : Policy) (x : World π.State) (t : Times) (fits : times_fit t ≡ 
   same-left c d v o s = ap (λ (z : Verdict). left_by π z x c) v ∙ go (verdict_of π x d)
     where
       go : (z : Verdict) → left_by π z x c ≡ left_by π z x d
-      go (Refused y) = ap (λ (l : List ℕ). left_by π (Refused y) x (read unmeasured 0 l)) o
-      go Fine = s
+      go (Err y) = ap (λ (l : List ℕ). left_by π (Err y) x (read unmeasured 0 l)) o
+      go (Ok _) = s
 
   pub read-opened : (q : ℕ) (out : List ℕ) → left π x (read t q out) ≡ left π x (read unmeasured q out)
   read-opened q out = same-left (read t q out) (read unmeasured q out) (rw fits) refl (ap (read_by π x q) (same-outcome Read q))

@@ -3,24 +3,16 @@ use mathlib.Core.Path.{◌≡◌, refl, sym, ap, ◌∙◌}
 use mathlib.Core.List.{List, [], ◌∷◌}
 use Prim.Native.Nat.{ℕ}
 use lib.ListN.{get_or}
+use Rattle.std.specs.Prelude.{Some, None, Result, Ok, Err}
 use Rattle.model.specs.Words.{Said, refused, opened, hit, fault, fault_clean, fault_dirty, flushed, dropped, total, noted}
-use Rattle.model.specs.Words.{number_of, named_by, refusal_says, answer_says, opening_says, flushing_says, dropping_says, costing_says, timing_says}
-use Rattle.model.specs.declared.Victim.TheVariants.{None, Clean, Dirty}
+use Rattle.model.specs.Words.{Answer, Verdict, number_of, named_by, refusal_says, access_says, says}
+use Rattle.model.specs.Words.{answer_says, opening_says, flushing_says, dropping_says, costing_says, timing_says}
+use Rattle.model.specs.declared.Victim.TheVariants.{Clean, Dirty}
 use Rattle.model.specs.declared.Refusal.{Refusal}
 use Rattle.model.specs.declared.Refusal.TheVariants.{OutOfLimits, BrokenPool, WrongMemory, NoSuchPage, WrongBytes, Spent}
 use Rattle.model.specs.declared.Refusal.TheVariants.{NotATrace, BadRecord, LongFile, LargePool, NoRoom, ZeroTime, BrokenWindows}
-use Rattle.model.specs.declared.Answer.{Answer}
-use Rattle.model.specs.declared.Answer.TheVariants as answer
-use Rattle.model.specs.declared.Opening.{Opening}
-use Rattle.model.specs.declared.Opening.TheVariants as opening
-use Rattle.model.specs.declared.Flushing.{Flushing}
-use Rattle.model.specs.declared.Flushing.TheVariants as flushing
-use Rattle.model.specs.declared.Dropping.{Dropping}
-use Rattle.model.specs.declared.Dropping.TheVariants as dropping
-use Rattle.model.specs.declared.Costing.{Costing}
-use Rattle.model.specs.declared.Costing.TheVariants as costing
-use Rattle.model.specs.declared.Timing.{Timing}
-use Rattle.model.specs.declared.Timing.TheVariants as timing
+use Rattle.model.specs.declared.Access.{Access}
+use Rattle.model.specs.declared.Access.TheVariants.{Hit, Fault}
 
 -- a function that has a way back takes no two values to one
 one-to-one : {A B : Type 0} (f : A → B) (back : B → A) → ((x : A) → back (f x) ≡ x) → (x y : A) → f x ≡ f y → x ≡ y
@@ -48,101 +40,93 @@ refusal-home NoRoom = refl
 refusal-home ZeroTime = refl
 refusal-home BrokenWindows = refl
 
--- what is said, by what to make of a refusal, of a flush and of a total, and of all else
-abbrev heard : {A : Type 0} → (Refusal → A) → (ℕ → A) → (ℕ → A) → A → Said → A
-heard refuse flush sum other (refused n ks) = refuse (refusal_by n ks)
-heard refuse flush sum other (flushed n) = flush n
-heard refuse flush sum other (total n) = sum n
-heard refuse flush sum other dropped = other
-heard refuse flush sum other noted = other
-heard refuse flush sum other opened = other
-heard refuse flush sum other hit = other
-heard refuse flush sum other fault = other
-heard refuse flush sum other (fault_clean q) = other
-heard refuse flush sum other (fault_dirty q) = other
-
 abbrev refusal_in : Said → Refusal
-refusal_in = heard (λ x. x) (λ n. Spent) (λ n. Spent) Spent
+refusal_in (refused n ks) = refusal_by n ks
+refusal_in opened = Spent
+refusal_in hit = Spent
+refusal_in fault = Spent
+refusal_in (fault_clean q) = Spent
+refusal_in (fault_dirty q) = Spent
+refusal_in (flushed n) = Spent
+refusal_in dropped = Spent
+refusal_in (total n) = Spent
+refusal_in noted = Spent
 
 pub refusal-one-to-one : (x y : Refusal) → refusal_says x ≡ refusal_says y → x ≡ y
 refusal-one-to-one = one-to-one refusal_says refusal_in refusal-home
 
+-- ---- answers: a refusal is heard as one, and `heard_as` hears the rest
+
+abbrev heard : {T : Type 0} → (Said → T) → Said → Result T Refusal
+heard heard_as (refused n ks) = Err (refusal_by n ks)
+heard heard_as opened = Ok (heard_as opened)
+heard heard_as hit = Ok (heard_as hit)
+heard heard_as fault = Ok (heard_as fault)
+heard heard_as (fault_clean q) = Ok (heard_as (fault_clean q))
+heard heard_as (fault_dirty q) = Ok (heard_as (fault_dirty q))
+heard heard_as (flushed n) = Ok (heard_as (flushed n))
+heard heard_as dropped = Ok (heard_as dropped)
+heard heard_as (total n) = Ok (heard_as (total n))
+heard heard_as noted = Ok (heard_as noted)
+
+pub says-one-to-one : {T : Type 0} (word : T → Said) (heard_as : Said → T) → ((t : T) → heard heard_as (word t) ≡ Ok t)
+    → (x y : Result T Refusal) → says word x ≡ says word y → x ≡ y
+says-one-to-one {T} word heard_as ok = one-to-one (says word) (heard heard_as) home
+  where
+    home : (x : Result T Refusal) → heard heard_as (says word x) ≡ x
+    home (Err x) = ap Err (refusal-home x)
+    home (Ok t) = ok t
+
 -- ---- reads and writes
 
-abbrev answer_in : Said → Answer
-answer_in (refused n ks) = answer.Refused (refusal_by n ks)
-answer_in opened = answer.Hit
-answer_in hit = answer.Hit
-answer_in fault = answer.Fault None
-answer_in (fault_clean q) = answer.Fault (Clean q)
-answer_in (fault_dirty q) = answer.Fault (Dirty q)
-answer_in (flushed n) = answer.Hit
-answer_in dropped = answer.Hit
-answer_in (total n) = answer.Hit
-answer_in noted = answer.Hit
-
-answer-home : (x : Answer) → answer_in (answer_says x) ≡ x
-answer-home (answer.Refused x) = ap answer.Refused (refusal-home x)
-answer-home answer.Hit = refl
-answer-home (answer.Fault None) = refl
-answer-home (answer.Fault (Clean q)) = refl
-answer-home (answer.Fault (Dirty q)) = refl
+abbrev access_in : Said → Access
+access_in (refused n ks) = Hit
+access_in opened = Hit
+access_in hit = Hit
+access_in fault = Fault None
+access_in (fault_clean q) = Fault (Some (Clean q))
+access_in (fault_dirty q) = Fault (Some (Dirty q))
+access_in (flushed n) = Hit
+access_in dropped = Hit
+access_in (total n) = Hit
+access_in noted = Hit
 
 pub answer-one-to-one : (x y : Answer) → answer_says x ≡ answer_says y → x ≡ y
-answer-one-to-one = one-to-one answer_says answer_in answer-home
+answer-one-to-one = says-one-to-one access_says access_in home
+  where
+    home : (a : Access) → heard access_in (access_says a) ≡ Ok a
+    home Hit = refl
+    home (Fault None) = refl
+    home (Fault (Some (Clean q))) = refl
+    home (Fault (Some (Dirty q))) = refl
 
--- ---- opening
+-- ---- a flush and a total, which answer a number
 
-abbrev opening_in : Said → Opening
-opening_in = heard opening.Refused (λ n. opening.Opened) (λ n. opening.Opened) opening.Opened
+abbrev number_in : Said → ℕ
+number_in (refused n ks) = 0
+number_in opened = 0
+number_in hit = 0
+number_in fault = 0
+number_in (fault_clean q) = 0
+number_in (fault_dirty q) = 0
+number_in (flushed n) = n
+number_in dropped = 0
+number_in (total n) = n
+number_in noted = 0
 
-opening-home : (x : Opening) → opening_in (opening_says x) ≡ x
-opening-home (opening.Refused x) = ap opening.Refused (refusal-home x)
-opening-home opening.Opened = refl
+pub flushing-one-to-one : (x y : Result ℕ Refusal) → flushing_says x ≡ flushing_says y → x ≡ y
+flushing-one-to-one = says-one-to-one flushed number_in (λ n. refl)
 
-pub opening-one-to-one : (x y : Opening) → opening_says x ≡ opening_says y → x ≡ y
-opening-one-to-one = one-to-one opening_says opening_in opening-home
+pub costing-one-to-one : (x y : Result ℕ Refusal) → costing_says x ≡ costing_says y → x ≡ y
+costing-one-to-one = says-one-to-one total number_in (λ n. refl)
 
--- ---- flush, drop and total
+-- ---- opening, a drop, a report and the start of two windows, which answer no more than that they were not refused
 
-abbrev flushing_in : Said → Flushing
-flushing_in = heard flushing.Refused flushing.Wrote (λ n. flushing.Wrote 0) (flushing.Wrote 0)
+pub opening-one-to-one : (x y : Verdict) → opening_says x ≡ opening_says y → x ≡ y
+opening-one-to-one = says-one-to-one (λ _. opened) (λ _. tt) (λ u. refl)
 
-flushing-home : (x : Flushing) → flushing_in (flushing_says x) ≡ x
-flushing-home (flushing.Refused x) = ap flushing.Refused (refusal-home x)
-flushing-home (flushing.Wrote n) = refl
+pub dropping-one-to-one : (x y : Verdict) → dropping_says x ≡ dropping_says y → x ≡ y
+dropping-one-to-one = says-one-to-one (λ _. dropped) (λ _. tt) (λ u. refl)
 
-pub flushing-one-to-one : (x y : Flushing) → flushing_says x ≡ flushing_says y → x ≡ y
-flushing-one-to-one = one-to-one flushing_says flushing_in flushing-home
-
-abbrev dropping_in : Said → Dropping
-dropping_in = heard dropping.Refused (λ n. dropping.Dropped) (λ n. dropping.Dropped) dropping.Dropped
-
-dropping-home : (x : Dropping) → dropping_in (dropping_says x) ≡ x
-dropping-home (dropping.Refused x) = ap dropping.Refused (refusal-home x)
-dropping-home dropping.Dropped = refl
-
-pub dropping-one-to-one : (x y : Dropping) → dropping_says x ≡ dropping_says y → x ≡ y
-dropping-one-to-one = one-to-one dropping_says dropping_in dropping-home
-
-abbrev costing_in : Said → Costing
-costing_in = heard costing.Refused (λ n. costing.Total 0) costing.Total (costing.Total 0)
-
-costing-home : (x : Costing) → costing_in (costing_says x) ≡ x
-costing-home (costing.Refused x) = ap costing.Refused (refusal-home x)
-costing-home (costing.Total n) = refl
-
-pub costing-one-to-one : (x y : Costing) → costing_says x ≡ costing_says y → x ≡ y
-costing-one-to-one = one-to-one costing_says costing_in costing-home
-
--- ---- a report, and the start of two windows
-
-abbrev timing_in : Said → Timing
-timing_in = heard timing.Refused (λ n. timing.Noted) (λ n. timing.Noted) timing.Noted
-
-timing-home : (x : Timing) → timing_in (timing_says x) ≡ x
-timing-home (timing.Refused x) = ap timing.Refused (refusal-home x)
-timing-home timing.Noted = refl
-
-pub timing-one-to-one : (x y : Timing) → timing_says x ≡ timing_says y → x ≡ y
-timing-one-to-one = one-to-one timing_says timing_in timing-home
+pub timing-one-to-one : (x y : Verdict) → timing_says x ≡ timing_says y → x ≡ y
+timing-one-to-one = says-one-to-one (λ _. noted) (λ _. tt) (λ u. refl)

@@ -1,12 +1,12 @@
 -- What a call does to the lent bytes: a request by its frame and answer alone, a flush by the dirty frames, a drop by its page, so every policy shares it.
 -- Assumes nothing.
-use Rattle.std.specs.Prelude.{List, replicate, ℕ, ◌+◌, ◌*◌}
+use Rattle.std.specs.Prelude.{List, replicate, ℕ, ◌+◌, ◌*◌, Option, Some, None, Ok, Err}
 use Rattle.pages.specs.Pages.{splice, page_of, with_page}
 use Rattle.pages.specs.Memory.{written_back}
 use Rattle.model.specs.declared.Victim.{Victim}
-use Rattle.model.specs.declared.Victim.TheVariants.{None, Clean, Dirty}
-use Rattle.model.specs.declared.Answer.{Answer}
-use Rattle.model.specs.declared.Answer.TheVariants.{Refused, Hit, Fault}
+use Rattle.model.specs.declared.Victim.TheVariants.{Clean, Dirty}
+use Rattle.model.specs.Words.{Answer}
+use Rattle.model.specs.declared.Access.TheVariants.{Hit, Fault}
 
 pub record Memory : Type 0 where
   pub frames : List ℕ
@@ -16,10 +16,10 @@ abbrev pub memory : List ℕ → List ℕ → Memory
 memory frames store = record { frames = frames; store = store }
 
 -- the victim of frame f is put back: a dirty one's bytes go to its place in the store
-abbrev pub put_back : ℕ → ℕ → Victim → Memory → Memory
+abbrev pub put_back : ℕ → ℕ → Option Victim → Memory → Memory
 put_back P f None m = m
-put_back P f (Clean q) m = m
-put_back P f (Dirty q) m = record { frames = m.frames; store = with_page P q (page_of P f m.frames) m.store }
+put_back P f (Some (Clean q)) m = m
+put_back P f (Some (Dirty q)) m = record { frames = m.frames; store = with_page P q (page_of P f m.frames) m.store }
 
 -- page q is read from the store into frame f
 abbrev pub fetched : ℕ → ℕ → ℕ → Memory → Memory
@@ -27,9 +27,9 @@ fetched P f q m = record { frames = with_page P f (page_of P q m.store) m.frames
 
 -- page q is in frame f: on a fault the victim is put back, and then the page is fetched
 abbrev pub brought : ℕ → ℕ → ℕ → Answer → Memory → Memory
-brought P f q (Refused x) m = m
-brought P f q Hit m = m
-brought P f q (Fault v) m = fetched P f q (put_back P f v m)
+brought P f q (Err x) m = m
+brought P f q (Ok Hit) m = m
+brought P f q (Ok (Fault v)) m = fetched P f q (put_back P f v m)
 
 -- a write replaces only the named stretch in the frame
 abbrev pub overlaid : ℕ → ℕ → ℕ → List ℕ → Memory → Memory

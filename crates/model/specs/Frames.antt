@@ -6,16 +6,16 @@
 --     FlushStep    what a flush leaves
 --     DropStep     what a drop leaves
 -- Assumes nothing.
-use Rattle.std.specs.Prelude.{◌≡◌, ◌≢◌, List, ℕ, zero, suc, ◌+◌, ◌≤◌, ◌<◌, length, get_or, set}
+use Rattle.std.specs.Prelude.{◌≡◌, ◌≢◌, List, ℕ, zero, suc, ◌+◌, ◌≤◌, ◌<◌, length, get_or, set, Option, Some, None, Ok, Err}
 use Rattle.order.specs.Count.{count}
 use Rattle.model.specs.Numbers.{Numbers}
 use Rattle.model.specs.Moves.{Content, vacant, clean, dirty}
 use Rattle.model.specs.declared.Op.{Op}
 use Rattle.model.specs.declared.Op.TheVariants.{Read, Write}
 use Rattle.model.specs.declared.Victim.{Victim}
-use Rattle.model.specs.declared.Victim.TheVariants.{None, Clean, Dirty}
-use Rattle.model.specs.declared.Answer.{Answer}
-use Rattle.model.specs.declared.Answer.TheVariants.{Refused, Hit, Fault}
+use Rattle.model.specs.declared.Victim.TheVariants.{Clean, Dirty}
+use Rattle.model.specs.Words.{Answer}
+use Rattle.model.specs.declared.Access.TheVariants.{Hit, Fault}
 
 pub record Frames : Type 0 where
   pub empty : ℕ → ℕ
@@ -69,12 +69,12 @@ pub record HitStep (op : Op) (q f : ℕ) (x y : Frames) : Type 0 where
   pub mark_off : (g : ℕ) → f ≢ g → y.unsaved g ≡ x.unsaved g
 
 -- the victim of a frame that is resident r times and unsaved d times, with page p
-abbrev pub VictimOf : Victim → ℕ → ℕ → ℕ → Type 0
+abbrev pub VictimOf : Option Victim → ℕ → ℕ → ℕ → Type 0
 VictimOf None r d p = r ≡ 0
-VictimOf (Clean w) r d p = (1 ≤ r) × (d ≡ 0) × (w ≡ p)
-VictimOf (Dirty w) r d p = (1 ≤ r) × (w ≡ p)
+VictimOf (Some (Clean w)) r d p = (1 ≤ r) × (d ≡ 0) × (w ≡ p)
+VictimOf (Some (Dirty w)) r d p = (1 ≤ r) × (w ≡ p)
 
-pub record FaultStep (op : Op) (q f : ℕ) (v : Victim) (x y : Frames) : Type 0 where
+pub record FaultStep (op : Op) (q f : ℕ) (v : Option Victim) (x y : Frames) : Type 0 where
   pub absent : (g : ℕ) → 1 ≤ x.resident g → page_at x g ≢ q
   pub stands : 1 ≤ x.empty f + x.resident f
   pub victim : VictimOf v (x.resident f) (x.unsaved f) (page_at x f)
@@ -87,9 +87,9 @@ pub record FaultStep (op : Op) (q f : ℕ) (v : Victim) (x y : Frames) : Type 0 
   pub mark_off : (g : ℕ) → f ≢ g → y.unsaved g ≡ x.unsaved g
 
 abbrev pub Step : Op → ℕ → ℕ → Answer → Frames → Frames → Type 0
-Step op q f (Refused e) x y = ⊥
-Step op q f Hit x y = HitStep op q f x y
-Step op q f (Fault v) x y = FaultStep op q f v x y
+Step op q f (Err e) x y = ⊥
+Step op q f (Ok Hit) x y = HitStep op q f x y
+Step op q f (Ok (Fault v)) x y = FaultStep op q f v x y
 
 -- ---- a flush of the frames of a list, between x and y
 

@@ -1,6 +1,7 @@
 -- The numbers of a pool and their limits.
 -- Assumes nothing.
 use Rattle.std.specs.Prelude.{Bool, ◌&&◌, cond as if-else, ℕ, ◌≤◌, eqb, leb}
+use Rattle.model.specs.declared.Numbers as held
 
 -- b frames over a store of N pages of P bytes; what a physical read and a physical write cost
 pub record Numbers : Type 0 where
@@ -12,6 +13,13 @@ pub record Numbers : Type 0 where
 
 abbrev pub numbers : ℕ → ℕ → ℕ → ℕ → ℕ → Numbers
 numbers b P N r w = record { b = b; P = P; N = N; r = r; w = w }
+
+-- those that the code holds
+abbrev pub numbers_held : held.Numbers → Numbers
+numbers_held n = numbers n.frames n.page_bytes n.pages n.read_cost n.write_cost
+
+abbrev pub holding : Numbers → held.Numbers
+holding n = record { frames = n.b; page_bytes = n.P; pages = n.N; read_cost = n.r; write_cost = n.w }
 
 -- the target is counted in units, 65,536 to a page
 abbrev pub unit : ℕ

@@ -5,7 +5,7 @@ use Rattle.model.specs.Numbers.{Numbers}
 use Rattle.model.specs.Counts.{Counts}
 use Rattle.model.specs.Target.{Costs}
 use Rattle.model.specs.declared.Op.{Op}
-use Rattle.model.specs.declared.Answer.{Answer}
+use Rattle.model.specs.Words.{Answer}
 
 -- what a request leaves: the next state, the frame that has the page, and the answer
 pub record Outcome (S : Type 0) : Type 0 where

@@ -1,24 +1,23 @@
 -- When something is refused: the scope's table, in the scope's order.
 -- Assumes nothing.
-use Rattle.std.specs.Prelude.{◌≡◌, Bool, true, false, not, ◌&&◌, List, [], ◌∷◌, ℕ, ◌+◌, ◌*◌, ◌<◌, leb, ltb, eqb}
+use Rattle.std.specs.Prelude.{◌≡◌, Bool, true, false, not, ◌&&◌, List, [], ◌∷◌, ℕ, ◌+◌, ◌*◌, ◌<◌, leb, ltb, eqb, Ok, Err}
 use Rattle.pages.specs.Memory.{sizes_match}
 use Rattle.model.specs.Numbers.{Numbers, in_limits, meant, most_served}
 use Rattle.model.specs.declared.Refusal.{Refusal}
 use Rattle.model.specs.declared.Refusal.TheVariants.{OutOfLimits, BrokenPool, BrokenWindows, WrongMemory, NoSuchPage, WrongBytes, Spent}
-use Rattle.model.specs.declared.Verdict.{Verdict}
-use Rattle.model.specs.declared.Verdict.TheVariants.{Fine, Refused}
+use Rattle.model.specs.Words.{Verdict}
 
 pub record Row : Type 0 where
   pub when : Bool
   pub why : Refusal
 
 abbrev pub verdict_by : Bool → Refusal → Verdict → Verdict
-verdict_by true x later = Refused x
+verdict_by true x later = Err x
 verdict_by false x later = later
 
 -- the first row whose condition holds
 abbrev pub first : List Row → Verdict
-first [] = Fine
+first [] = Ok tt
 first (x ∷ xs) = verdict_by x.when x.why (first xs)
 
 -- y is given by the first row whose condition holds: its own does, and none before it

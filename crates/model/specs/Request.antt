@@ -6,33 +6,31 @@
 --     flushed, dropped    the next state
 --     states     all of it as a policy
 -- Assumes nothing.
-use Rattle.std.specs.Prelude.{Bool, true, cond as if-else, List, [], ◌∷◌, ◌++◌, ℕ, ◌-◌, ◌<◌, length, get_or, ltb}
+use Rattle.std.specs.Prelude.{Bool, true, cond as if-else, List, [], ◌∷◌, ◌++◌, ℕ, ◌-◌, ◌<◌, length, get_or, ltb, Option, Some, None, Ok}
 use Rattle.order.specs.Lists.{remove_at, move_to_front}
 use Rattle.order.specs.Find.{find_from}
 use Rattle.order.specs.Merge.{merged}
-use Rattle.order.specs.declared.Found.{Found}
-use Rattle.order.specs.declared.Found.TheVariants.{At, Nowhere}
 use Rattle.model.specs.Target.{Costs, Adjustment, up, down, adjust, above_target}
 use Rattle.model.specs.Policy.{Outcome, Policy}
 use Rattle.model.specs.State.{State, with_lists, with_page_in, with_target, counted, referenced, emptied, page_in}
 use Rattle.model.specs.declared.Op.{Op}
 use Rattle.model.specs.declared.Op.TheVariants.{Read, Write}
 use Rattle.model.specs.declared.Place.{Place}
-use Rattle.model.specs.declared.Place.TheVariants.{InClean, InDirty, Absent}
+use Rattle.model.specs.declared.Place.TheVariants.{InClean, InDirty}
 use Rattle.model.specs.declared.Choice.{Choice}
 use Rattle.model.specs.declared.Choice.TheVariants.{OfEmpty, OfClean, OfDirty}
 use Rattle.model.specs.declared.Victim.{Victim}
-use Rattle.model.specs.declared.Victim.TheVariants.{None, Clean, Dirty}
-use Rattle.model.specs.declared.Answer.TheVariants.{Hit, Fault}
+use Rattle.model.specs.declared.Victim.TheVariants.{Clean, Dirty}
+use Rattle.model.specs.declared.Access.TheVariants.{Hit, Fault}
 
 -- ---- where a page is
 
-abbrev pub place_by : Found → Found → Place
-place_by (At i) in_d = InClean i
-place_by Nowhere (At i) = InDirty i
-place_by Nowhere Nowhere = Absent
+abbrev pub place_by : Option ℕ → Option ℕ → Option Place
+place_by (Some i) in_d = Some (InClean i)
+place_by None (Some i) = Some (InDirty i)
+place_by None None = None
 
-abbrev pub locate : State → ℕ → Place
+abbrev pub locate : State → ℕ → Option Place
 locate s q = place_by (find_from 0 s.page q s.lists.C) (find_from 0 s.page q s.lists.D)
 
 -- ---- which frame a fault takes
@@ -59,7 +57,7 @@ ChoiceIn e c d (OfDirty i) = i < d
 pub record Taken : Type 0 where
   pub state : State
   pub frame : ℕ
-  pub victim : Victim
+  pub victim : Option Victim
 
 abbrev pub taken : State → Choice → Taken
 taken s (OfEmpty i) =
@@ -72,26 +70,26 @@ taken s (OfClean i) =
     record {
       state = with_lists s.lists.E (remove_at i s.lists.C) s.lists.D s;
       frame = get_or s.lists.C i 0;
-      victim = Clean (page_in s (get_or s.lists.C i 0));
+      victim = Some (Clean (page_in s (get_or s.lists.C i 0)));
     }
 taken s (OfDirty i) =
     record {
       state = with_lists s.lists.E s.lists.C (remove_at i s.lists.D) s;
       frame = get_or s.lists.D i 0;
-      victim = Dirty (page_in s (get_or s.lists.D i 0));
+      victim = Some (Dirty (page_in s (get_or s.lists.D i 0)));
     }
 
 -- line 21: a dirty victim is written
-abbrev pub writes_of : Victim → ℕ
+abbrev pub writes_of : Option Victim → ℕ
 writes_of None = 0
-writes_of (Clean q) = 0
-writes_of (Dirty q) = 1
+writes_of (Some (Clean q)) = 0
+writes_of (Some (Dirty q)) = 1
 
 -- ---- what a request does
 
 -- a hit on frame f leaves state s, with its call counted and its number given to the frame
 abbrev pub hit : ℕ → State → Outcome State
-hit f s = record { state = referenced f (counted 0 0 s); frame = f; answer = Hit }
+hit f s = record { state = referenced f (counted 0 0 s); frame = f; answer = Ok Hit }
 
 -- lines 2 to 4
 abbrev pub read_clean : Costs → State → ℕ → Outcome State
@@ -129,19 +127,19 @@ fault_into op q t =
     record {
       state = referenced t.frame (counted 1 (writes_of t.victim) (loaded op t.frame q t.state));
       frame = t.frame;
-      answer = Fault t.victim;
+      answer = Ok (Fault t.victim);
     }
 
 abbrev pub faulted : Op → State → ℕ → Outcome State
 faulted op s q = fault_into op q (taken s (chosen s))
 
-abbrev pub request_at : Op → Costs → State → ℕ → Place → Outcome State
-request_at Read k s q (InClean i) = read_clean k s i
-request_at Write k s q (InClean i) = write_clean s i
-request_at Write k s q (InDirty i) = write_dirty k s i
-request_at Read k s q (InDirty i) = read_dirty s i
-request_at Read k s q Absent = faulted Read s q
-request_at Write k s q Absent = faulted Write s q
+abbrev pub request_at : Op → Costs → State → ℕ → Option Place → Outcome State
+request_at Read k s q (Some (InClean i)) = read_clean k s i
+request_at Write k s q (Some (InClean i)) = write_clean s i
+request_at Write k s q (Some (InDirty i)) = write_dirty k s i
+request_at Read k s q (Some (InDirty i)) = read_dirty s i
+request_at Read k s q None = faulted Read s q
+request_at Write k s q None = faulted Write s q
 
 abbrev pub request : Op → Costs → State → ℕ → Outcome State
 request op k s q = request_at op k s q (locate s q)
@@ -160,13 +158,13 @@ vacated f s = emptied f (with_lists (s.lists.E ++ (f ∷ [])) s.lists.C s.lists.
 abbrev pub vacated_by : Taken → State
 vacated_by t = vacated t.frame t.state
 
-abbrev pub vacated_at : State → Place → State
-vacated_at s (InClean i) = vacated_by (taken s (OfClean i))
-vacated_at s (InDirty i) = vacated_by (taken s (OfDirty i))
-vacated_at s Absent = s
+abbrev pub vacated_at : State → Option Place → State
+vacated_at s (Some (InClean i)) = vacated_by (taken s (OfClean i))
+vacated_at s (Some (InDirty i)) = vacated_by (taken s (OfDirty i))
+vacated_at s None = s
 
 -- "counted as one physical write", wherever the page was
-abbrev pub dropped_at : State → Place → State
+abbrev pub dropped_at : State → Option Place → State
 dropped_at s x = counted 0 1 (vacated_at s x)
 
 abbrev pub dropped : State → ℕ → State
@@ -190,13 +188,13 @@ states =
 
 -- ---- the adjustments that a request makes, with the sizes that the lists have then
 
-abbrev pub adjustments_at : Op → Costs → State → Place → List Adjustment
-adjustments_at Read k s (InClean i) = up k (length s.lists.C) (length s.lists.D) ∷ []
-adjustments_at Write k s (InClean i) = []
-adjustments_at Write k s (InDirty i) = down k (length s.lists.C) (length s.lists.D) ∷ []
-adjustments_at Read k s (InDirty i) = []
-adjustments_at Read k s Absent = []
-adjustments_at Write k s Absent = []
+abbrev pub adjustments_at : Op → Costs → State → Option Place → List Adjustment
+adjustments_at Read k s (Some (InClean i)) = up k (length s.lists.C) (length s.lists.D) ∷ []
+adjustments_at Write k s (Some (InClean i)) = []
+adjustments_at Write k s (Some (InDirty i)) = down k (length s.lists.C) (length s.lists.D) ∷ []
+adjustments_at Read k s (Some (InDirty i)) = []
+adjustments_at Read k s None = []
+adjustments_at Write k s None = []
 
 abbrev pub adjustments_of : Op → Costs → State → ℕ → List Adjustment
 adjustments_of op k s q = adjustments_at op k s (locate s q)

@@ -4,7 +4,7 @@
 --     history     what each page is after a run, by the served writes and drops
 --     gathered    what the served calls of a run bring, one after the other
 -- Assumes nothing.
-use Rattle.std.specs.Prelude.{List, [], ◌∷◌, ◌++◌, ℕ, length}
+use Rattle.std.specs.Prelude.{List, [], ◌∷◌, ◌++◌, ℕ, length, Ok, Err}
 use Rattle.pages.specs.Pages.{page_of}
 use Rattle.model.specs.Words.{Said, flushed as said_flushed, dropped as said_dropped, total as said_total, answer_says, refusal_says}
 use Rattle.model.specs.Target.{Costs, costs_of}
@@ -16,8 +16,7 @@ use Rattle.model.specs.Bytes.{Memory, brought, overlaid, flushed_bytes, wiped}
 use Rattle.model.specs.Moves.{History, laid, cut}
 use Rattle.model.specs.declared.Op.{Op}
 use Rattle.model.specs.declared.Op.TheVariants.{Read, Write}
-use Rattle.model.specs.declared.Verdict.{Verdict}
-use Rattle.model.specs.declared.Verdict.TheVariants.{Fine, Refused}
+use Rattle.model.specs.Words.{Verdict}
 
 pub data Call : Type 0 where
   -- the kept numbers that it takes, if any; the page, and the output as it is lent
@@ -125,8 +124,8 @@ module _ (π : Policy) where
 
   -- "A refused call returns the given pool and changes no lent byte."
   abbrev pub left_by : Verdict → World π.State → Call → Left π.State
-  left_by (Refused y) x c = record { state = x.state; said = refusal_says y; memory = x.memory; out = output_of c }
-  left_by Fine x c = served x c
+  left_by (Err y) x c = record { state = x.state; said = refusal_says y; memory = x.memory; out = output_of c }
+  left_by (Ok _) x c = served x c
 
   unfoldable pub left : World π.State → Call → Left π.State
   left x c = left_by (verdict_of x c) x c
@@ -142,20 +141,20 @@ module _ (π : Policy) where
 
   -- a served write is laid over its page, a served drop cuts it, and nothing else counts
   abbrev pub told_by : Verdict → World π.State → Call → History → History
-  told_by (Refused y) x c h = h
-  told_by Fine x (read t q out) h = h
-  told_by Fine x (write t q start bytes) h = laid q start bytes h
-  told_by Fine x flush h = h
-  told_by Fine x (drop q) h = cut (π.numbers x.state).P q h
-  told_by Fine x total h = h
+  told_by (Err y) x c h = h
+  told_by (Ok _) x (read t q out) h = h
+  told_by (Ok _) x (write t q start bytes) h = laid q start bytes h
+  told_by (Ok _) x flush h = h
+  told_by (Ok _) x (drop q) h = cut (π.numbers x.state).P q h
+  told_by (Ok _) x total h = h
 
   abbrev pub history : World π.State → List Call → History → History
   history x [] h = h
   history x (c ∷ cs) h = history (after x c) cs (told_by (verdict_of x c) x c h)
 
   abbrev pub brought_by : {A : Type 0} → Verdict → List A → List A
-  brought_by (Refused y) l = []
-  brought_by Fine l = l
+  brought_by (Err y) l = []
+  brought_by (Ok _) l = l
 
   abbrev pub gathered : {A : Type 0} → (World π.State → Call → List A) → World π.State → List Call → List A
   gathered each x [] = []

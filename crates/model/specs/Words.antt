@@ -1,23 +1,21 @@
 -- The scope's number and values for each case of each answer. Promises state answers in these; that no two cases say the same is proved.
 -- Assumes nothing.
-use Rattle.std.specs.Prelude.{List, [], ◌∷◌, ℕ}
+use Rattle.std.specs.Prelude.{List, [], ◌∷◌, ℕ, Option, Some, None, Result, Ok, Err}
 use Rattle.model.specs.declared.Victim.{Victim}
-use Rattle.model.specs.declared.Victim.TheVariants.{None, Clean, Dirty}
+use Rattle.model.specs.declared.Victim.TheVariants.{Clean, Dirty}
 use Rattle.model.specs.declared.Refusal.{Refusal}
 use Rattle.model.specs.declared.Refusal.TheVariants.{OutOfLimits, BrokenPool, WrongMemory, NoSuchPage, WrongBytes, Spent}
 use Rattle.model.specs.declared.Refusal.TheVariants.{NotATrace, BadRecord, LongFile, LargePool, NoRoom, ZeroTime, BrokenWindows}
-use Rattle.model.specs.declared.Answer.{Answer}
-use Rattle.model.specs.declared.Answer.TheVariants as answer
-use Rattle.model.specs.declared.Opening.{Opening}
-use Rattle.model.specs.declared.Opening.TheVariants as opening
-use Rattle.model.specs.declared.Flushing.{Flushing}
-use Rattle.model.specs.declared.Flushing.TheVariants as flushing
-use Rattle.model.specs.declared.Dropping.{Dropping}
-use Rattle.model.specs.declared.Dropping.TheVariants as dropping
-use Rattle.model.specs.declared.Costing.{Costing}
-use Rattle.model.specs.declared.Costing.TheVariants as costing
-use Rattle.model.specs.declared.Timing.{Timing}
-use Rattle.model.specs.declared.Timing.TheVariants as timing
+use Rattle.model.specs.declared.Access.{Access}
+use Rattle.model.specs.declared.Access.TheVariants.{Hit, Fault}
+
+-- whether something is refused, before anything is done
+abbrev pub Verdict : Type 0
+Verdict = Result (Unit {0}) Refusal
+
+-- what a read or a write answers
+abbrev pub Answer : Type 0
+Answer = Result Access Refusal
 
 -- what an answer says, in the scope's words and numbers
 pub data Said : Type 0 where
@@ -69,32 +67,34 @@ named_by BrokenWindows = []
 abbrev pub refusal_says : Refusal → Said
 refusal_says x = refused (number_of x) (named_by x)
 
-abbrev pub fault_says : Victim → Said
+abbrev pub fault_says : Option Victim → Said
 fault_says None = fault
-fault_says (Clean q) = fault_clean q
-fault_says (Dirty q) = fault_dirty q
+fault_says (Some (Clean q)) = fault_clean q
+fault_says (Some (Dirty q)) = fault_dirty q
+
+abbrev pub access_says : Access → Said
+access_says Hit = hit
+access_says (Fault v) = fault_says v
+
+-- what a call answers, by the word for what it does when it is not refused
+abbrev pub says : {T : Type 0} → (T → Said) → Result T Refusal → Said
+says word (Err x) = refusal_says x
+says word (Ok t) = word t
 
 abbrev pub answer_says : Answer → Said
-answer_says (answer.Refused x) = refusal_says x
-answer_says answer.Hit = hit
-answer_says (answer.Fault v) = fault_says v
+answer_says a = says access_says a
 
-abbrev pub opening_says : Opening → Said
-opening_says (opening.Refused x) = refusal_says x
-opening_says opening.Opened = opened
+abbrev pub opening_says : Verdict → Said
+opening_says a = says (λ _. opened) a
 
-abbrev pub flushing_says : Flushing → Said
-flushing_says (flushing.Refused x) = refusal_says x
-flushing_says (flushing.Wrote n) = flushed n
+abbrev pub flushing_says : Result ℕ Refusal → Said
+flushing_says a = says flushed a
 
-abbrev pub dropping_says : Dropping → Said
-dropping_says (dropping.Refused x) = refusal_says x
-dropping_says dropping.Dropped = dropped
+abbrev pub dropping_says : Verdict → Said
+dropping_says a = says (λ _. dropped) a
 
-abbrev pub costing_says : Costing → Said
-costing_says (costing.Refused x) = refusal_says x
-costing_says (costing.Total n) = total n
+abbrev pub costing_says : Result ℕ Refusal → Said
+costing_says a = says total a
 
-abbrev pub timing_says : Timing → Said
-timing_says (timing.Refused x) = refusal_says x
-timing_says timing.Noted = noted
+abbrev pub timing_says : Verdict → Said
+timing_says a = says (λ _. noted) a

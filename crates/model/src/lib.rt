@@ -1,10 +1,12 @@
-// The scope's words, its limits, and the numbers of its refusals for programs that print them. No other function stands here: specs/ says what is right, and
+// The scope's words, how programs print an answer and a refusal by its number, and the limits. No other function stands here: specs/ says what is right, and
 // proofs/ shows what follows from it.
 #![tactic(auto)]
 
 ghost use Rattle.std.specs.Prelude.{◌≡◌};
-ghost use Rattle.model.specs.Numbers.{numbers, in_limits};
+ghost use Rattle.model.specs.Numbers.{between, numbers_held, in_limits};
 ghost use Rattle.model.specs.Words.{number_of};
+
+use std::fmt;
 
 // The usual drive, which opening with both costs 0 means.
 pub const USUAL_READ: u64 = 1;
@@ -14,6 +16,37 @@ pub const USUAL_WRITE: u64 = 10;
 // So many calls are served in one opening.
 pub const MOST_SERVED: u64 = 1000000000;
 
+// The numbers that a pool is opened with and keeps.
+#[derive(Clone, Copy, Default)]
+pub struct Numbers {
+    // b, P and N: frames, 1 to 64; bytes of a page, 16 to 4,096; pages of the store, 1 to 65,536.
+    pub frames: usize,
+    pub page_bytes: usize,
+    pub pages: usize,
+    // r and w: what a physical read and a physical write cost, each 1 to 1,000.
+    pub read_cost: u64,
+    pub write_cost: u64,
+}
+
+fn between(low: u64, x: u64, high: u64) -> bool
+    ensures { result ≡ between low x high }
+{
+    low <= x && x <= high
+}
+
+impl Numbers {
+    // Whether they are in their limits.
+    pub fn in_limits(&self) -> bool
+        ensures { result ≡ in_limits (numbers_held self.now) }
+    {
+        between(1, self.frames as u64, 64)
+            & between(16, self.page_bytes as u64, 4096)
+            & between(1, self.pages as u64, 65536)
+            & between(1, self.read_cost, 1000)
+            & between(1, self.write_cost, 1000)
+    }
+}
+
 // What a request asks of a page.
 #[derive(Clone, Copy)]
 pub enum Op {
@@ -21,12 +54,11 @@ pub enum Op {
     Write,
 }
 
-// Where a page is: at a place of C, at a place of D, or in no frame.
+// Where a page is: at a place of C or of D. A page that no frame has is at none.
 #[derive(Clone, Copy)]
 pub enum Place {
     InClean(usize),
     InDirty(usize),
-    Absent,
 }
 
 // Which frame a fault takes: the one at a place of E, of C or of D.
@@ -37,15 +69,21 @@ pub enum Choice {
     OfDirty(usize),
 }
 
-// The page that had to leave the frame that a fault took.
+// The page that has to leave the frame that a fault takes, if the frame is not empty.
 #[derive(Clone, Copy)]
 pub enum Victim {
-    None,
     Clean(usize),
     Dirty(usize),
 }
 
-// Why something is refused. `number_of` gives the scope's number of each.
+// What a served read or write finds: the page in a frame, or no frame that has it.
+#[derive(Clone, Copy)]
+pub enum Access {
+    Hit,
+    Fault(Option<Victim>),
+}
+
+// Why something is refused. `number` gives the scope's number of each.
 #[derive(Clone, Copy)]
 pub enum Refusal {
     OutOfLimits,
@@ -63,58 +101,11 @@ pub enum Refusal {
     BrokenWindows,
 }
 
-// Whether something is refused, before anything is done.
-#[derive(Clone, Copy)]
-pub enum Verdict {
-    Fine,
-    Refused(Refusal),
-}
-
 // What a read or a write answers.
-#[derive(Clone, Copy)]
-pub enum Answer {
-    Refused(Refusal),
-    Hit,
-    Fault(Victim),
-}
-
-// What opening answers.
-#[derive(Clone, Copy)]
-pub enum Opening {
-    Refused(Refusal),
-    Opened,
-}
-
-// What a flush answers: how many pages it wrote.
-#[derive(Clone, Copy)]
-pub enum Flushing {
-    Refused(Refusal),
-    Wrote(usize),
-}
-
-// What a drop answers: "there is no further answer".
-#[derive(Clone, Copy)]
-pub enum Dropping {
-    Refused(Refusal),
-    Dropped,
-}
-
-// What the total answers: the cost of all physical reads and writes.
-#[derive(Clone, Copy)]
-pub enum Costing {
-    Refused(Refusal),
-    Total(u64),
-}
-
-// What the start of two windows and a report answer: there is no further answer.
-#[derive(Clone, Copy)]
-pub enum Timing {
-    Refused(Refusal),
-    Noted,
-}
+pub type Answer = Result<Access, Refusal>;
 
 // What is kept of a window of times: how many of its places are filled, which comes next, and the sum of its times.
-#[derive(Clone, Copy)]
+#[derive(Clone, Copy, Default)]
 pub struct Window {
     pub fill: usize,
     pub next: usize,
@@ -122,70 +113,68 @@ pub struct Window {
 }
 
 // What is kept of the two windows of `n` times, those of physical reads and those of physical writes.
-#[derive(Clone, Copy)]
+#[derive(Clone, Copy, Default)]
 pub struct Kept {
     pub n: usize,
     pub reads: Window,
     pub writes: Window,
 }
 
-// The scope's number of a refusal.
-pub fn number_of(why: Refusal) -> u64
-    ensures { result ≡ number_of why }
-{
-    match why {
-        Refusal::OutOfLimits => 1,
-        Refusal::BrokenPool => 2,
-        Refusal::WrongMemory => 3,
-        Refusal::NoSuchPage => 4,
-        Refusal::WrongBytes => 5,
-        Refusal::Spent => 6,
-        Refusal::NotATrace => 7,
-        Refusal::BadRecord(_) => 8,
-        Refusal::LongFile => 9,
-        Refusal::LargePool => 10,
-        Refusal::NoRoom => 11,
-        Refusal::ZeroTime => 12,
-        Refusal::BrokenWindows => 13,
+impl Refusal {
+    // The scope's number.
+    pub fn number(self) -> u64
+        ensures { result ≡ number_of self }
+    {
+        match self {
+            Refusal::OutOfLimits => 1,
+            Refusal::BrokenPool => 2,
+            Refusal::WrongMemory => 3,
+            Refusal::NoSuchPage => 4,
+            Refusal::WrongBytes => 5,
+            Refusal::Spent => 6,
+            Refusal::NotATrace => 7,
+            Refusal::BadRecord(_) => 8,
+            Refusal::LongFile => 9,
+            Refusal::LargePool => 10,
+            Refusal::NoRoom => 11,
+            Refusal::ZeroTime => 12,
+            Refusal::BrokenWindows => 13,
+        }
     }
 }
 
-// Whether the numbers of a pool are in their limits.
-pub fn in_limits(
-    frames: usize,
-    page_bytes: usize,
-    pages: usize,
-    read_cost: u64,
-    write_cost: u64,
-) -> bool
-    ensures { result ≡ in_limits (numbers frames page_bytes pages read_cost write_cost) }
-{
-    if frames < 1 {
-        return false;
+// ---- as the programs print it
+
+impl fmt::Display for Op {
+    fn fmt<W: fmt::Write>(&self, f: &mut fmt::Formatter<W>) -> fmt::Result {
+        f.write_str(match self {
+            Op::Read => "read",
+            Op::Write => "write",
+        })
     }
-    if 64 < frames {
-        return false;
+}
+
+impl fmt::Display for Victim {
+    fn fmt<W: fmt::Write>(&self, f: &mut fmt::Formatter<W>) -> fmt::Result {
+        match self {
+            Victim::Clean(page) => write!(f, "clean {page}"),
+            Victim::Dirty(page) => write!(f, "dirty {page}"),
+        }
     }
-    if page_bytes < 16 {
-        return false;
+}
+
+impl fmt::Display for Access {
+    fn fmt<W: fmt::Write>(&self, f: &mut fmt::Formatter<W>) -> fmt::Result {
+        match self {
+            Access::Hit => f.write_str("hit"),
+            Access::Fault(None) => f.write_str("fault"),
+            Access::Fault(Some(victim)) => write!(f, "fault {victim}"),
+        }
     }
-    if 4096 < page_bytes {
-        return false;
+}
+
+impl fmt::Display for Refusal {
+    fn fmt<W: fmt::Write>(&self, f: &mut fmt::Formatter<W>) -> fmt::Result {
+        write!(f, "refused {}", self.number())
     }
-    if pages < 1 {
-        return false;
-    }
-    if 65536 < pages {
-        return false;
-    }
-    if read_cost < 1 {
-        return false;
-    }
-    if 1000 < read_cost {
-        return false;
-    }
-    if write_cost < 1 {
-        return false;
-    }
-    write_cost <= 1000
 }

@@ -2,9 +2,10 @@
 --     pad-length, pad-set, pad-get_or    a padded list
 --     none-in-places, in-places-length, in-places-take, in-places-get_or    the empty list, how many places there are, and what is read out of them
 --     front-in-places, remove-in-places, cons-in-places, tail-in-places    an operation on the places is one on the list
+--     list_of-in-places, list_of-put_front    the list that the code holds, and a frame more at its front
 --     turn-in-places, rest-in-places    places are filled with a list, one after the other
 -- Assumes nothing.
-use mathlib.Core.Path.{◌≡◌, refl, sym, ap, ◌∙◌}
+use mathlib.Core.Path.{◌≡◌, refl, sym, ap, subst, ◌∙◌}
 use mathlib.Core.List.{List, [], ◌∷◌, ◌++◌, append_assoc}
 use Prim.Native.Nat.{ℕ, zero, suc, ◌+◌, ◌-◌, ◌≤◌, ◌<◌}
 use native.Mathlib.Nat.{add-zero}
@@ -13,7 +14,8 @@ use native.Mathlib.Omega.{arith}
 use lib.ListN.{length, get_or, set, take, drop, replicate, length-append, length-replicate, length-set, get_or-append}
 use lib.Seq.{set-append_seam, set-append_left, take-append_seam, take-suc, get_or-drop, drop-drop}
 use Rattle.order.specs.Lists.{remove_at, insert_at, move_to_front}
-use Rattle.order.specs.Places.{places, pad, InPlaces}
+use Rattle.order.specs.Places.{places, pad, InPlaces, list_of}
+use Rattle.order.specs.declared.FrameList.{FrameList}
 use Rattle.order.proofs.Lists.{remove_at-append, remove_at-seam, insert_at-seam, remove_at-length}
 
 -- ---- a padded list
@@ -99,6 +101,21 @@ module _ {list : List ℕ} {n : ℕ} {xs : List ℕ} (h : InPlaces list n xs) wh
         len = simp length-append (omega (arith, h.len));
         fits = omega arith;
       }
+
+-- ---- a list of frames, as the code holds it
+
+-- what a method leaves, by what it promises
+pub as-promised : {l m : FrameList} {xs : List ℕ} → l ≡ m → InPlaces m.places m.len xs → InPlaces l.places l.len xs
+as-promised {xs = xs} e h = subst (λ (l : FrameList). InPlaces l.places l.len xs) (sym e) h
+
+pub list_of-in-places : (xs : List ℕ) → length xs ≤ places → InPlaces (list_of xs).places (list_of xs).len xs
+list_of-in-places xs h = record { is = refl; len = refl; fits = h }
+
+pub list_of-put_front : (xs : List ℕ) (x : ℕ) → length xs < places
+    → ◌≡◌ {A = FrameList} (record { places = x ∷ remove_at (length xs) (pad xs); len = length xs + 1 }) (list_of (x ∷ xs))
+list_of-put_front xs x h =
+    let n : length xs + 1 ≡ suc (length xs) = add-one (length xs) in
+    λ i. record { places = pad-cons xs x h i; len = n i }
 
 -- ---- places that are filled with a list, one after the other
 

@@ -1,13 +1,11 @@
 -- Where in a list of frames the first one stands that has a page, and whether a page stands at all among those of the first frames.
 -- Assumes nothing.
-use Rattle.std.specs.Prelude.{Bool, false, ◌||◌, cond as if-else, List, [], ◌∷◌, ℕ, zero, suc, get_or, eqb}
-use Rattle.order.specs.declared.Found.{Found}
-use Rattle.order.specs.declared.Found.TheVariants.{At, Nowhere}
+use Rattle.std.specs.Prelude.{Bool, false, ◌||◌, cond as if-else, List, [], ◌∷◌, ℕ, zero, suc, Option, Some, None, get_or, eqb}
 
 -- the place, counted from k, of the first frame of fs whose page is `wanted`; `page` has the page of each frame
-abbrev pub find_from : ℕ → List ℕ → ℕ → List ℕ → Found
-find_from k page wanted [] = Nowhere
-find_from k page wanted (f ∷ fs) = if-else (eqb (get_or page f 0) wanted) (At k) (find_from (suc k) page wanted fs)
+abbrev pub find_from : ℕ → List ℕ → ℕ → List ℕ → Option ℕ
+find_from k page wanted [] = None
+find_from k page wanted (f ∷ fs) = if-else (eqb (get_or page f 0) wanted) (Some k) (find_from (suc k) page wanted fs)
 
 -- q stands in the first n places
 abbrev pub has_before : List ℕ → ℕ → ℕ → Bool

@@ -1,5 +1,4 @@
--- The laws of `pages`: Copy for its own loops; Splice, Pages and Memory for its callers too. Assumes nothing.
-pub mod Copy
+-- The laws of `pages`, for its callers too. Assumes nothing.
 pub mod Splice
 pub mod Pages
 pub mod Memory

@@ -1,24 +1,23 @@
 -- The answers of the functions of the test: a no where something is wrong, and behind the tests that have passed the answer of the last one.
---     counts-last, lengths-last, tails-last    counts, lengths, places without meaning
+--     counts-last, lengths-last    counts, lengths
 --     frames-decides, pages-last    frames and pages
 --     sound-refused, sound-last, sound-full    the whole
 -- Assumes nothing.
 use mathlib.Core.Path.{◌≡◌, ap}
 use mathlib.Core.Bool.{Bool, true, false}
-use mathlib.Core.List.{List, []}
+use mathlib.Core.List.{[]}
 use Prim.Native.Nat.{ℕ, ◌+◌, ◌*◌, ◌-◌, ◌≤◌}
 use native.Mathlib.Omega.{arith}
-use lib.ListN.{length, take, drop}
+use lib.ListN.{take}
 use lib.Dec.{eqb, leb}
-use Rattle.order.specs.Places.{places}
-use Rattle.checks.specs.Tests.{Decides, every, is_zero, PagesRight}
+use Rattle.checks.specs.Tests.{Decides, PagesRight}
 use Rattle.checks.proofs.Exact.{exact-iff, exact-eqb, exact-leb}
-use Rattle.checks.proofs.Decides.{decides-of, decides-test, decides-iff, decides-same}
+use Rattle.checks.proofs.Decides.{decides-of, decides-iff, decides-same}
 use Rattle.model.specs.Numbers.{unit, most_served}
-use Rattle.pool.specs.Test.{CountsRight, TailsRight, sound_test}
+use Rattle.pool.specs.Test.{CountsRight, CountsIn, LengthsIn, PlacesIn, TailsRight, sound_test}
 use Rattle.pool.specs.Pool.{Sound}
 use Rattle.pool.specs.declared.Pool.{Pool}
-use Rattle.pool.proofs.Parts.{LimitsIn, CountsIn, LengthsIn, TailsIn, StandingIn, PagesIn, PartsRight, sound-parts, parts-sound}
+use Rattle.pool.proofs.Parts.{LimitsIn, StandingIn, PagesIn, PartsRight, sound-parts, parts-sound}
 use Rattle.pool.proofs.Decides.{sound_test-decides}
 
 -- ---- numbers
@@ -33,31 +32,24 @@ pub lengths-last : (b en cn dn : ℕ) → en ≤ b → cn ≤ b - en → Decides
 lengths-last b en cn dn h k =
     decides-of (eqb dn (b - en - cn)) (exact-iff (λ e. omega arith) (λ e. omega arith) (exact-eqb dn (b - en - cn)))
 
-pub tails-last : (e : List ℕ) (en : ℕ) (c : List ℕ) (cn : ℕ) (d : List ℕ) (dn : ℕ) (page reference : List ℕ) (b : ℕ) (t : Bool)
-    → every is_zero (drop en e) ≡ true → every is_zero (drop cn c) ≡ true → every is_zero (drop dn d) ≡ true → every is_zero (drop b page) ≡ true
-    → t ≡ every is_zero (drop b reference) → Decides t (TailsRight e en c cn d dn page reference b)
-tails-last e en c cn d dn page reference b t he hc hd hp h =
-    decides-iff t (λ hr. record { empty = he; clean = hc; dirty = hd; pages = hp; references = hr }) (λ r. r.references) (decides-test t _ h)
-
 -- ---- the whole
 
 pub sound-refused : (p : Pool) → (PartsRight p → ⊥) → false ≡ sound_test p
 sound-refused p wrong = decides-same (Sound p) false (sound_test p) (λ s. wrong (sound-parts p s)) (sound_test-decides p)
 
-pub sound-last : (p : Pool) → length p.empty ≡ places → length p.clean ≡ places → length p.dirty ≡ places → length p.page ≡ places
-    → length p.reference ≡ places → LimitsIn p → CountsIn p → LengthsIn p → TailsIn p → StandingIn p → (t : Bool) → Decides t (PagesIn p) → t ≡ sound_test p
-sound-last p le lc ld lp lr l c n o f t d =
+pub sound-last : (p : Pool) → PlacesIn p → LimitsIn p → CountsIn p → LengthsIn p → TailsRight p → StandingIn p
+    → (t : Bool) → Decides t (PagesIn p) → t ≡ sound_test p
+sound-last p w l c n o f t d =
     decides-same (Sound p) t (sound_test p)
     (decides-iff t
-    (λ g. parts-sound p le lc ld lp lr (record { limits = l; counts = c; lengths = n; tails = o; standing = f; pages = g }))
+    (λ g. parts-sound p w (record { limits = l; counts = c; lengths = n; tails = o; standing = f; pages = g }))
     (λ s. (sound-parts p s).pages)
     d)
     (sound_test-decides p)
 
 -- no frame is empty
-pub sound-full : (p : Pool) → length p.empty ≡ places → length p.clean ≡ places → length p.dirty ≡ places → length p.page ≡ places
-    → length p.reference ≡ places → LimitsIn p → CountsIn p → LengthsIn p → TailsIn p → StandingIn p → p.empty_len ≡ 0
-    → PagesRight p.frames p.pages [] p.page → true ≡ sound_test p
-sound-full p le lc ld lp lr l c n o f z g =
-    let none : take p.empty_len p.empty ≡ [] = ap (λ (k : ℕ). take k p.empty) z in
-    sound-last p le lc ld lp lr l c n o f true (rw none g)
+pub sound-full : (p : Pool) → PlacesIn p → LimitsIn p → CountsIn p → LengthsIn p → TailsRight p → StandingIn p → p.lists.empty.len ≡ 0
+    → PagesRight p.numbers.frames p.numbers.pages [] p.page → true ≡ sound_test p
+sound-full p w l c n o f z g =
+    let none : take p.lists.empty.len p.lists.empty.places ≡ [] = ap (λ (k : ℕ). take k p.lists.empty.places) z in
+    sound-last p w l c n o f true (rw none g)

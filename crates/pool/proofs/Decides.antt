@@ -184,10 +184,10 @@ sound_test-exact p =
     })
     (λ s. let h = sound-lists p s in ((h.empty, (h.clean, (h.dirty, (h.page, h.reference)))), (s.good, s.blank)))
     (exact-and
-    (exact-and (in_places_test-exact p.empty p.empty_len)
-    (exact-and (in_places_test-exact p.clean p.clean_len)
-    (exact-and (in_places_test-exact p.dirty p.dirty_len)
-    (exact-and (in_places_test-exact p.page p.frames) (in_places_test-exact p.reference p.frames)))))
+    (exact-and (in_places_test-exact p.lists.empty.places p.lists.empty.len)
+    (exact-and (in_places_test-exact p.lists.clean.places p.lists.clean.len)
+    (exact-and (in_places_test-exact p.lists.dirty.places p.lists.dirty.len)
+    (exact-and (in_places_test-exact p.page p.numbers.frames) (in_places_test-exact p.reference p.numbers.frames)))))
     (blank_test-exact (state_of p)))
 
 pub sound_test-decides : (p : Pool) → Decides (sound_test p) (Sound p)

@@ -3,12 +3,12 @@
 --     PartsRight, sound-parts, parts-sound    the parts that the test looks at, one after the other
 -- Assumes nothing.
 use mathlib.Core.Path.{◌≡◌, sym, ap, ◌∙◌}
-use Prim.Native.Nat.{ℕ, ◌+◌, ◌≤◌, ◌<◌}
+use Prim.Native.Nat.{ℕ, ◌≤◌, ◌<◌}
 use native.Mathlib.Omega.{arith}
 use lib.ListN.{length, get_or, take}
 use lib.Seq.{get_or-take}
 use Rattle.order.specs.Count.{count}
-use Rattle.order.specs.Places.{places, InPlaces}
+use Rattle.order.specs.Places.{InPlaces, listed}
 use Rattle.order.proofs.Merged.{ordered-same}
 use Rattle.checks.specs.Tests.{PagesRight}
 use Rattle.checks.proofs.Zeros.{in-places-zeros, zeros-in-places}
@@ -17,7 +17,7 @@ use Rattle.recency.specs.Recency.{StandingRight}
 use Rattle.model.specs.Numbers.{Limits}
 use Rattle.model.specs.State.{resident, standing}
 use Rattle.model.proofs.Good.{standing-below, lengths-sum}
-use Rattle.pool.specs.Test.{CountsRight, TailsRight}
+use Rattle.pool.specs.Test.{CountsIn, LengthsIn, PlacesIn, TailsRight}
 use Rattle.pool.specs.Pool.{pool_of, numbers_in, state_of, Sound}
 use Rattle.pool.specs.declared.Pool.{Pool}
 use Rattle.pool.proofs.Form.{refilled}
@@ -25,37 +25,28 @@ use Rattle.pool.proofs.Form.{refilled}
 -- ---- the lists in their places
 
 pub record ListsIn (p : Pool) : Type 0 where
-  pub empty : InPlaces p.empty p.empty_len (take p.empty_len p.empty)
-  pub clean : InPlaces p.clean p.clean_len (take p.clean_len p.clean)
-  pub dirty : InPlaces p.dirty p.dirty_len (take p.dirty_len p.dirty)
-  pub page : InPlaces p.page p.frames (take p.frames p.page)
-  pub reference : InPlaces p.reference p.frames (take p.frames p.reference)
+  pub empty : InPlaces p.lists.empty.places p.lists.empty.len (listed p.lists.empty)
+  pub clean : InPlaces p.lists.clean.places p.lists.clean.len (listed p.lists.clean)
+  pub dirty : InPlaces p.lists.dirty.places p.lists.dirty.len (listed p.lists.dirty)
+  pub page : InPlaces p.page p.numbers.frames (take p.numbers.frames p.page)
+  pub reference : InPlaces p.reference p.numbers.frames (take p.numbers.frames p.reference)
 
 -- what each part of the test finds out of a pool
 abbrev pub LimitsIn : Pool → Type 0
 LimitsIn p = Limits (numbers_in p)
 
-abbrev pub CountsIn : Pool → Type 0
-CountsIn p = CountsRight p.frames p.target p.served p.reads.0 p.writes.0
-
-abbrev pub LengthsIn : Pool → Type 0
-LengthsIn p = p.empty_len + (p.clean_len + p.dirty_len) ≡ p.frames
-
-abbrev pub TailsIn : Pool → Type 0
-TailsIn p = TailsRight p.empty p.empty_len p.clean p.clean_len p.dirty p.dirty_len p.page p.reference p.frames
-
 abbrev pub StandingIn : Pool → Type 0
 StandingIn p =
-    StandingRight p.frames p.served (take p.empty_len p.empty) (take p.clean_len p.clean) (take p.dirty_len p.dirty) p.reference
+    StandingRight p.numbers.frames p.served (listed p.lists.empty) (listed p.lists.clean) (listed p.lists.dirty) p.reference
 
 abbrev pub PagesIn : Pool → Type 0
-PagesIn p = PagesRight p.frames p.pages (take p.empty_len p.empty) p.page
+PagesIn p = PagesRight p.numbers.frames p.numbers.pages (listed p.lists.empty) p.page
 
 pub record PartsRight (p : Pool) : Type 0 where
   pub limits : LimitsIn p
   pub counts : CountsIn p
   pub lengths : LengthsIn p
-  pub tails : TailsIn p
+  pub tails : TailsRight p
   pub standing : StandingIn p
   pub pages : PagesIn p
 
@@ -67,15 +58,15 @@ module _ (p : Pool) where
 
   pub sound-lists : Sound p → ListsIn p
   sound-lists s =
-      let en : length (take p.empty_len p.empty) ≡ p.empty_len = ap (λ (q : Pool). q.empty_len) (sym s.whole) in
-      let cn : length (take p.clean_len p.clean) ≡ p.clean_len = ap (λ (q : Pool). q.clean_len) (sym s.whole) in
-      let dn : length (take p.dirty_len p.dirty) ≡ p.dirty_len = ap (λ (q : Pool). q.dirty_len) (sym s.whole) in
+      let en : length (listed p.lists.empty) ≡ p.lists.empty.len = ap (λ (q : Pool). q.lists.empty.len) (sym s.whole) in
+      let cn : length (listed p.lists.clean) ≡ p.lists.clean.len = ap (λ (q : Pool). q.lists.clean.len) (sym s.whole) in
+      let dn : length (listed p.lists.dirty) ≡ p.lists.dirty.len = ap (λ (q : Pool). q.lists.dirty.len) (sym s.whole) in
       let sum = lengths-sum (state_of p) s.good in
       let high = s.good.limits.b_high in
       record {
-        empty = record { is = ap (λ (q : Pool). q.empty) s.whole; len = en; fits = omega arith };
-        clean = record { is = ap (λ (q : Pool). q.clean) s.whole; len = cn; fits = omega arith };
-        dirty = record { is = ap (λ (q : Pool). q.dirty) s.whole; len = dn; fits = omega arith };
+        empty = record { is = ap (λ (q : Pool). q.lists.empty.places) s.whole; len = en; fits = omega arith };
+        clean = record { is = ap (λ (q : Pool). q.lists.clean.places) s.whole; len = cn; fits = omega arith };
+        dirty = record { is = ap (λ (q : Pool). q.lists.dirty.places) s.whole; len = dn; fits = omega arith };
         page = record { is = ap (λ (q : Pool). q.page) s.whole; len = s.good.placed.paged; fits = high };
         reference = record { is = ap (λ (q : Pool). q.reference) s.whole; len = s.good.numbered.each; fits = high };
       }
@@ -83,12 +74,12 @@ module _ (p : Pool) where
   -- ---- the parts
 
   -- the page of a frame, in the state and in the pool
-  page_same : (f : ℕ) → f < p.frames → get_or (take p.frames p.page) f 0 ≡ get_or p.page f 0
-  page_same f = get_or-take p.frames p.page f 0
+  page_same : (f : ℕ) → f < p.numbers.frames → get_or (take p.numbers.frames p.page) f 0 ≡ get_or p.page f 0
+  page_same f = get_or-take p.numbers.frames p.page f 0
 
   -- so is its number
-  number-same : (f : ℕ) → f < p.frames → get_or (take p.frames p.reference) f 0 ≡ get_or p.reference f 0
-  number-same f = get_or-take p.frames p.reference f 0
+  number-same : (f : ℕ) → f < p.numbers.frames → get_or (take p.numbers.frames p.reference) f 0 ≡ get_or p.reference f 0
+  number-same f = get_or-take p.numbers.frames p.reference f 0
 
   pub sound-parts : Sound p → PartsRight p
   sound-parts s =
@@ -123,8 +114,7 @@ module _ (p : Pool) where
             };
       }
 
-  module _ (le : length p.empty ≡ places) (lc : length p.clean ≡ places) (ld : length p.dirty ≡ places) (lp : length p.page ≡ places)
-      (lr : length p.reference ≡ places) where
+  module _ (w : PlacesIn p) where
     pub parts-sound : PartsRight p → Sound p
     parts-sound r =
         record {
@@ -137,8 +127,8 @@ module _ (p : Pool) where
                   paged = lists.page.len;
                   inside = λ f c. rw (page_same f (below f (omega arith))) (r.pages.inside f (below f (omega arith)) (full f c));
                   apart = λ f k c d e.
-                      let l : f < p.frames = below f (omega arith) in
-                      let m : k < p.frames = below k (omega arith) in
+                      let l : f < p.numbers.frames = below f (omega arith) in
+                      let m : k < p.numbers.frames = below k (omega arith) in
                       r.pages.apart f k l m (full f c) (full k d) (sym (page_same f l) ∙ e ∙ page_same k m);
                 };
                 numbered = record {
@@ -159,15 +149,15 @@ module _ (p : Pool) where
             let sum = r.lengths in
             let high = r.limits.b_high in
             record {
-              empty = zeros-in-places p.empty p.empty_len le (omega arith) r.tails.empty;
-              clean = zeros-in-places p.clean p.clean_len lc (omega arith) r.tails.clean;
-              dirty = zeros-in-places p.dirty p.dirty_len ld (omega arith) r.tails.dirty;
-              page = zeros-in-places p.page p.frames lp high r.tails.pages;
-              reference = zeros-in-places p.reference p.frames lr high r.tails.references;
+              empty = zeros-in-places p.lists.empty.places p.lists.empty.len w.empty (omega arith) r.tails.empty;
+              clean = zeros-in-places p.lists.clean.places p.lists.clean.len w.clean (omega arith) r.tails.clean;
+              dirty = zeros-in-places p.lists.dirty.places p.lists.dirty.len w.dirty (omega arith) r.tails.dirty;
+              page = zeros-in-places p.page p.numbers.frames w.pages high r.tails.pages;
+              reference = zeros-in-places p.reference p.numbers.frames w.references high r.tails.references;
             }
 
-        below : (f : ℕ) → 1 ≤ standing (state_of p).lists f → f < p.frames
+        below : (f : ℕ) → 1 ≤ standing (state_of p).lists f → f < p.numbers.frames
         below = frames-below r.standing.frames
 
-        full : (f : ℕ) → 1 ≤ resident (state_of p).lists f → count f (take p.empty_len p.empty) ≡ 0
+        full : (f : ℕ) → 1 ≤ resident (state_of p).lists f → count f (listed p.lists.empty) ≡ 0
         full f c = omega (arith, r.standing.frames.once f (below f (omega arith)))

@@ -5,9 +5,9 @@
 -- Beside these, the fields of a pool are known to its soundness test (specs/Test, proofs/Parts), to `refilled` in proofs/Form, to opening (`fresh`,
 -- `zero_pool` in `casa`) and to `turns`, which changes one at a time.
 -- Assumes nothing.
-use Rattle.std.specs.Prelude.{◌≡◌, length, take}
-use Rattle.order.specs.Places.{pad}
-use Rattle.model.specs.Numbers.{Numbers}
+use Rattle.std.specs.Prelude.{◌≡◌, take}
+use Rattle.order.specs.Places.{pad, listed, list_of}
+use Rattle.model.specs.Numbers.{Numbers, numbers_held, holding}
 use Rattle.model.specs.Frames.{Blank}
 use Rattle.model.specs.State.{State, frames_of}
 use Rattle.model.specs.Good.{Good}
@@ -16,17 +16,8 @@ use Rattle.pool.specs.declared.Pool.{Pool}
 abbrev pub pool_of : State → Pool
 pool_of s =
     record {
-      frames = s.numbers.b;
-      page_bytes = s.numbers.P;
-      pages = s.numbers.N;
-      read_cost = s.numbers.r;
-      write_cost = s.numbers.w;
-      empty = pad s.lists.E;
-      empty_len = length s.lists.E;
-      clean = pad s.lists.C;
-      clean_len = length s.lists.C;
-      dirty = pad s.lists.D;
-      dirty_len = length s.lists.D;
+      numbers = holding s.numbers;
+      lists = record { empty = list_of s.lists.E; clean = list_of s.lists.C; dirty = list_of s.lists.D };
       page = pad s.page;
       reference = pad s.reference;
       target = s.target;
@@ -36,20 +27,15 @@ pool_of s =
     }
 
 abbrev pub numbers_in : Pool → Numbers
-numbers_in p = record { b = p.frames; P = p.page_bytes; N = p.pages; r = p.read_cost; w = p.write_cost }
+numbers_in p = numbers_held p.numbers
 
 abbrev pub state_of : Pool → State
 state_of p =
     record {
       numbers = numbers_in p;
-      lists =
-          record {
-            E = take p.empty_len p.empty;
-            C = take p.clean_len p.clean;
-            D = take p.dirty_len p.dirty;
-          };
-      page = take p.frames p.page;
-      reference = take p.frames p.reference;
+      lists = record { E = listed p.lists.empty; C = listed p.lists.clean; D = listed p.lists.dirty };
+      page = take p.numbers.frames p.page;
+      reference = take p.numbers.frames p.reference;
       target = p.target;
       counts = record { served = p.served; nR = p.reads.0; nW = p.writes.0 };
     }

@@ -1,6 +1,6 @@
 -- Soundness as a test that computes, line by line beside `Good`, `Blank` and `Sound`; `sound_test-decides` says that it is true of the sound pools and no
 -- other. Assumes nothing.
-use Rattle.std.specs.Prelude.{◌≡◌, Bool, true, not, ◌&&◌, ◌||◌, List, [], ◌∷◌, ◌++◌, ℕ, ◌*◌, ◌≤◌, eqb, leb, ltb, length, drop}
+use Rattle.std.specs.Prelude.{◌≡◌, Bool, true, not, ◌&&◌, ◌||◌, List, [], ◌∷◌, ◌++◌, ℕ, ◌+◌, ◌*◌, ◌≤◌, eqb, leb, ltb, length, drop}
 use Rattle.order.specs.Places.{places}
 use Rattle.order.specs.Count.{count}
 use Rattle.checks.specs.Tests.{every, every_below, is_zero}
@@ -58,9 +58,9 @@ in_places_test list n = eqb (length list) places && (leb n places && every is_ze
 
 abbrev pub whole_test : Pool → Bool
 whole_test p =
-    in_places_test p.empty p.empty_len
-    && (in_places_test p.clean p.clean_len
-    && (in_places_test p.dirty p.dirty_len && (in_places_test p.page p.frames && in_places_test p.reference p.frames)))
+    in_places_test p.lists.empty.places p.lists.empty.len
+    && (in_places_test p.lists.clean.places p.lists.clean.len
+    && (in_places_test p.lists.dirty.places p.lists.dirty.len && (in_places_test p.page p.numbers.frames && in_places_test p.reference p.numbers.frames)))
 
 unfoldable pub sound_test : Pool → Bool
 sound_test p = whole_test p && (good_test (state_of p) && blank_test (state_of p))
@@ -73,10 +73,25 @@ pub record CountsRight (b target served nR nW : ℕ) : Type 0 where
   pub reads_high : nR ≤ served
   pub writes_high : nW ≤ b * served
 
+abbrev pub CountsIn : Pool → Type 0
+CountsIn p = CountsRight p.numbers.frames p.target p.served p.reads.0 p.writes.0
+
+-- the lengths of the lists add up to the number of frames
+abbrev pub LengthsIn : Pool → Type 0
+LengthsIn p = p.lists.empty.len + (p.lists.clean.len + p.lists.dirty.len) ≡ p.numbers.frames
+
+-- each list has its 64 places, and so have the pages and the reference numbers
+pub record PlacesIn (p : Pool) : Type 0 where
+  pub empty : length p.lists.empty.places ≡ places
+  pub clean : length p.lists.clean.places ≡ places
+  pub dirty : length p.lists.dirty.places ≡ places
+  pub pages : length p.page ≡ places
+  pub references : length p.reference ≡ places
+
 -- the places past the ends hold 0
-pub record TailsRight (e : List ℕ) (en : ℕ) (c : List ℕ) (cn : ℕ) (d : List ℕ) (dn : ℕ) (page reference : List ℕ) (b : ℕ) : Type 0 where
-  pub empty : every is_zero (drop en e) ≡ true
-  pub clean : every is_zero (drop cn c) ≡ true
-  pub dirty : every is_zero (drop dn d) ≡ true
-  pub pages : every is_zero (drop b page) ≡ true
-  pub references : every is_zero (drop b reference) ≡ true
+pub record TailsRight (p : Pool) : Type 0 where
+  pub empty : every is_zero (drop p.lists.empty.len p.lists.empty.places) ≡ true
+  pub clean : every is_zero (drop p.lists.clean.len p.lists.clean.places) ≡ true
+  pub dirty : every is_zero (drop p.lists.dirty.len p.lists.dirty.places) ≡ true
+  pub pages : every is_zero (drop p.numbers.frames p.page) ≡ true
+  pub references : every is_zero (drop p.numbers.frames p.reference) ≡ true

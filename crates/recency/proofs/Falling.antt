@@ -1,16 +1,9 @@
--- Laws of the test of numbers that fall.
---     falls-spoilt, falls-kept, falls-zero, falls-through    one turn of a loop down a list or a merge, and its end
---     falls_from-exact, merge-exact    what the test finds out of a list, and of two by their merge
+-- What the test of numbers that fall finds out: of a list, and of two by their merge (`merge-exact`).
 -- Assumes nothing.
-use mathlib.Core.Path.{◌≡◌, sym, ◌∙◌}
-use mathlib.Core.Bool.{Bool, false, ◌&&◌, and-true, and-false}
-use mathlib.Core.Logic.{◌≢◌}
 use mathlib.Core.List.{List, [], ◌∷◌}
 use Prim.Native.Nat.{ℕ, ◌+◌, ◌≤◌, ◌<◌}
-use native.Mathlib.Nat.{pos_of_ne-zero}
 use native.Mathlib.Omega.{arith}
 use lib.ListN.{get_or}
-use borrow.Author.Tests.{lt-ltb, le-ltb}
 use Rattle.order.specs.Count.{count}
 use Rattle.order.specs.Merge.{Under, Falls, merged, Ordered}
 use Rattle.order.proofs.Count.{bit-same, count-cons}
@@ -21,26 +14,6 @@ use Rattle.recency.specs.Recency.{falls_from}
 module _ (reference : List ℕ) where
   abbrev number : ℕ → ℕ
   number f = get_or reference f 0
-
-  -- ---- one turn: frame f is next, with number v, behind one of number `last`
-
-  module _ {xs rest : List ℕ} {f v last : ℕ} (e : xs ≡ f ∷ rest) (h : v ≡ number f) where
-    module _ (ok all : Bool) (k : (ok && falls_from reference last xs) ≡ all) where
-      pub falls-spoilt : last ≤ v → false ≡ all
-      falls-spoilt l = sym (rw (e, le-ltb (number f) last (rw h at l), and-false)) ∙ k
-
-      pub falls-kept : v < last → (ok && falls_from reference v rest) ≡ all
-      falls-kept l = rw h (sym (rw (e, lt-ltb (number f) last (rw h at l))) ∙ k)
-
-  -- behind the last frame its number is above 0, or it is not
-  module _ {xs : List ℕ} {last : ℕ} (ok all : Bool) (e : xs ≡ []) (k : (ok && falls_from reference last xs) ≡ all) where
-    pub falls-zero : last ≡ 0 → false ≡ all
-    falls-zero z = sym (rw (e, le-ltb 0 last (omega arith), and-false)) ∙ k
-
-    pub falls-through : last ≢ 0 → ok ≡ all
-    falls-through n = sym (rw (e, lt-ltb 0 last (pos_of_ne-zero n), and-true)) ∙ k
-
-  -- ---- what the test finds out
 
   -- numbers that fall from below n on, and end above 0
   record FallsIn (n : ℕ) (xs : List ℕ) : Type 0 where

@@ -1,26 +1,31 @@
 -- Laws of the test of frames and numbers together.
---     low-exact, listed-below    the frames of a list are below b
---     empty-below, clean-below, dirty-below    so are those of all lists where frames are right
+--     low-exact    the frames of two lists are below b
+--     frames-in-places    frames below b have a place
+--     empty-below, clean-below, dirty-below    where frames are right, those of all lists are below b
 --     blank-exact    frames without a number
 --     full-decides    where no frame is empty: frames of which none stands twice, and as many as there are, are all of them
 --     standing-decides    where some are, and all frames stand once
 -- Assumes nothing.
-use mathlib.Core.Path.{◌≡◌}
-use mathlib.Core.Bool.{Bool, true}
+use mathlib.Core.Path.{◌≡◌, refl, ap}
+use mathlib.Core.Bool.{Bool, true, ◌&&◌}
 use mathlib.Core.Logic.{dite}
-use mathlib.Core.List.{List, []}
+use mathlib.Core.List.{List, [], ◌∷◌}
 use Prim.Native.Nat.{ℕ, ◌+◌, ◌-◌, ◌≤◌, ◌<◌}
 use native.Mathlib.Decide.{dec_lt}
 use native.Mathlib.Omega.{arith}
 use lib.ListN.{length, get_or, take, drop}
-use lib.Seq.{length-take-le, get_or-take, take_all}
+use lib.Seq.{take_all}
+use lib.Dec.{eqb}
 use borrow.Author.Tests.{eqb-true, le-leb}
+use Rattle.std.specs.List.{All, list_all}
+use Rattle.std.proofs.lemmas.List.Elements.{All-from_get_or}
 use Rattle.order.specs.Count.{count}
-use Rattle.order.specs.Places.{places}
+use Rattle.order.specs.Places.{places, listed}
+use Rattle.order.specs.declared.FrameList.{FrameList}
 use Rattle.order.specs.Merge.{merged, Ordered}
 use Rattle.order.proofs.Count.{count-here, count-once}
 use Rattle.order.proofs.Merged.{count-merged, merged-length, falls-once, falls-merged}
-use Rattle.checks.specs.Tests.{Decides, every, is_zero, is_at_most, blank_all, FramesRight}
+use Rattle.checks.specs.Tests.{Decides, every, is_zero, is_at_most, FramesRight}
 use Rattle.checks.proofs.Every.{every-means, every-of, every-front, every-both}
 use Rattle.checks.proofs.Exact.{Exact, exact-iff, exact-eqb, exact-leb, exact-every}
 use Rattle.checks.proofs.Frames.{frames-below}
@@ -33,26 +38,25 @@ use Rattle.recency.proofs.Falling.{merge-exact}
 abbrev pub Below : ℕ → List ℕ → Type 0
 Below b xs = (f : ℕ) → 1 ≤ count f xs → f < b
 
-pub listed-below : (b : ℕ) (list : List ℕ) (n : ℕ) → n ≤ length list → Below b (take n list) → (i : ℕ) → i < n → get_or list i 0 < b
-listed-below b list n l h i k =
-    rw (get_or-take n list i 0 k) at (h (get_or (take n list) i 0) (count-here (take n list) i (omega (arith, length-take-le n list l))))
+pub frames-in-places : (b : ℕ) (xs : List ℕ) → b ≤ places → Below b xs → All (λ f. f < places) xs
+frames-in-places b xs small h = All-from_get_or (λ f. f < places) xs 0 (λ i l. omega (arith, h (get_or xs i 0) (count-here xs i l)))
 
 -- all places are at most b - 1, those behind the list since they are 0
-pub low-exact : (b : ℕ) (list : List ℕ) (n : ℕ) → 1 ≤ b → length list ≡ places → every is_zero (drop n list) ≡ true
-    → Exact (every (is_at_most (b - 1)) (take places list)) (Below b (take n list))
-low-exact b list n some l z =
-    rw (take_all places list (omega arith))
+pub low-exact : (b : ℕ) (l : FrameList) → 1 ≤ b → length l.places ≡ places → every is_zero (drop l.len l.places) ≡ true
+    → Exact (every (is_at_most (b - 1)) (take places l.places)) (Below b (listed l))
+low-exact b l some long z =
+    rw (take_all places l.places (omega arith))
     (record {
-      means = λ e f c. omega (arith, front.means (every-front (is_at_most (b - 1)) n list e) f c);
-      test = λ h. every-both (is_at_most (b - 1)) n list (front.test (λ f c. omega (arith, h f c))) behind;
+      means = λ e f c. omega (arith, front.means (every-front (is_at_most (b - 1)) l.len l.places e) f c);
+      test = λ h. every-both (is_at_most (b - 1)) l.len l.places (front.test (λ f c. omega (arith, h f c))) behind;
     })
   where
-    front : Exact (every (is_at_most (b - 1)) (take n list)) ((f : ℕ) → 1 ≤ count f (take n list) → f ≤ b - 1)
-    front = exact-every (λ f. exact-leb f (b - 1)) (take n list)
+    front : Exact (every (is_at_most (b - 1)) (listed l)) ((f : ℕ) → 1 ≤ count f (listed l) → f ≤ b - 1)
+    front = exact-every (λ f. exact-leb f (b - 1)) (listed l)
 
-    behind : every (is_at_most (b - 1)) (drop n list) ≡ true
-    behind = every-of (is_at_most (b - 1)) (drop n list)
-        (λ i h. le-leb _ (b - 1) (omega (arith, eqb-true (get_or (drop n list) i 0) 0 (every-means is_zero (drop n list) z i h))))
+    behind : every (is_at_most (b - 1)) (drop l.len l.places) ≡ true
+    behind = every-of (is_at_most (b - 1)) (drop l.len l.places)
+        (λ i h. le-leb _ (b - 1) (omega (arith, eqb-true (get_or (drop l.len l.places) i 0) 0 (every-means is_zero (drop l.len l.places) z i h))))
 
 -- right frames are below b
 module _ {b : ℕ} {E C D : List ℕ} (r : FramesRight b E C D) where
@@ -67,8 +71,12 @@ module _ {b : ℕ} {E C D : List ℕ} (r : FramesRight b E C D) where
 
 -- ---- frames without a number
 
-pub blank-exact : (reference E : List ℕ) → Exact (blank_all reference E) ((f : ℕ) → 1 ≤ count f E → get_or reference f 0 ≡ 0)
-blank-exact reference E = exact-every (λ f. exact-eqb (get_or reference f 0) 0) E
+same-every : (t : ℕ → Bool) (xs : List ℕ) → list_all t xs ≡ every t xs
+same-every t [] = refl
+same-every t (x ∷ xs) = ap (λ b. t x && b) (same-every t xs)
+
+pub blank-exact : (reference E : List ℕ) → Exact (list_all (λ f. eqb (get_or reference f 0) 0) E) ((f : ℕ) → 1 ≤ count f E → get_or reference f 0 ≡ 0)
+blank-exact reference E = rw same-every (exact-every (λ f. exact-eqb (get_or reference f 0) 0) E)
 
 -- ---- frames and numbers
 
@@ -98,11 +106,11 @@ module _ (b served : ℕ) (C D reference : List ℕ) where
       most : Ordered reference served C D → (f : ℕ) → count f (merged reference C D) ≤ 1
       most o = falls-once reference (merged reference C D) (falls-merged reference C D o.first_falls o.second_falls o.apart)
 
-  pub full-decides : (e : List ℕ) {en : ℕ} → en ≡ 0 → length C + length D ≡ b → Below b C → Below b D
-      → (t : Bool) → t ≡ falls_from reference (served + 1) (merged reference C D) → Decides t (StandingRight b served (take en e) C D reference)
-  full-decides e z sum hc hd t x = rw (z, x) (decides-of _ (full-exact sum hc hd))
+  pub full-decides : (l : FrameList) → l.len ≡ 0 → length C + length D ≡ b → Below b C → Below b D
+      → (t : Bool) → t ≡ falls_from reference (served + 1) (merged reference C D) → Decides t (StandingRight b served (listed l) C D reference)
+  full-decides l z sum hc hd t x = rw (z, x) (decides-of _ (full-exact sum hc hd))
 
-  pub standing-decides : (E : List ℕ) → FramesRight b E C D → blank_all reference E ≡ true
+  pub standing-decides : (E : List ℕ) → FramesRight b E C D → list_all (λ f. eqb (get_or reference f 0) 0) E ≡ true
       → (t : Bool) → t ≡ falls_from reference (served + 1) (merged reference C D) → Decides t (StandingRight b served E C D reference)
   standing-decides E f n t x =
       decides-iff t (λ o. record { frames = f; ordered = o; blank = (blank-exact reference E).means n }) (λ s. s.ordered)

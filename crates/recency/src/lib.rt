@@ -2,132 +2,97 @@
 // lists finds every fault, also a frame that stands twice, which has its number twice.
 #![tactic(auto)]
 
-ghost use Rattle.std.specs.Prelude.{◌≡◌, true, ℕ, ◌+◌, ◌≤◌, ◌<◌, length, get_or, take, drop};
-ghost use Rattle.order.specs.Places.{places};
+ghost use Rattle.std.specs.Prelude.{◌≡◌, ◌==◌, true, ◌+◌, ◌≤◌, ◌<◌, slice_index, drop};
+ghost use Rattle.std.specs.List.{All, list_all};
+ghost use Rattle.order.specs.Places.{places, listed};
 ghost use Rattle.order.specs.Merge.{merged};
-ghost use Rattle.checks.specs.Tests.{Decides, every, is_zero, blank_all};
+ghost use Rattle.checks.specs.Tests.{Decides, every, is_zero};
 ghost use Rattle.recency.specs.Recency.{falls_from, StandingRight};
 
 use checks::frame_test;
-use order::PLACES;
+use order::{FrameLists, PLACES};
 
-// The number of the frame at a place of a list.
-fn number_at(list: &[u8; PLACES], i: usize, reference: &[u32; PLACES]) -> u32
-    requires { (i < places) × (get_or list.now i 0 < places) }
-    ensures { result ≡ get_or reference.now (get_or list.now i 0) 0 }
-{
-    let f = list[i] as usize;
-    reference[f]
-}
-
-// Whether the numbers of the frames of a list, from place `from` on, fall from below `above`, and end above 0.
-fn falls(list: &[u8; PLACES], from: usize, n: usize, reference: &[u32; PLACES], above: u32) -> bool
-    requires { (n ≤ places) × (length list.now ≡ places) × ((k : ℕ) → k < n → get_or list.now k 0 < places) }
-    ensures { result ≡ falls_from reference.now above (drop from (take n list.now)) }
+// Whether the numbers of the frames of a list fall from below `above`, and end above 0. It goes to the end, whatever it meets: such a loop is unrolled.
+fn falls(frames: &[u8], reference: &[u32; PLACES], above: u32) -> bool
+    requires { All (λ f. f < places) frames.now }
+    ensures { result ≡ falls_from reference.now above frames.now }
 {
     let mut ok = true;
     let mut last = above;
-    let mut i = from;
-    while i < n {
-        let number = number_at(list, i, reference);
+    for &f in frames {
+        let number = reference[f as usize];
         if last <= number {
             ok = false;
         }
         last = number;
-        i += 1;
     }
-    if last == 0 {
-        return false;
-    }
-    ok
+    last != 0 && ok
 }
 
-// The same of the merge of C and D. Once one of them is through, what is left of the other is looked through to its end, whatever is met: such a loop is
-// unrolled.
-fn merge_falls(
-    c: &[u8; PLACES],
-    cn: usize,
-    d: &[u8; PLACES],
-    dn: usize,
-    reference: &[u32; PLACES],
-    above: u32,
-) -> bool
-    requires cn_le_places { (cn ≤ places) × (length c.now ≡ places) × ((k : ℕ) → k < cn → get_or c.now k 0 < places) }
-    requires dn_le_places { (dn ≤ places) × (length d.now ≡ places) × ((k : ℕ) → k < dn → get_or d.now k 0 < places) }
-    ensures { result ≡ falls_from reference.now above (merged reference.now (take cn c.now) (take dn d.now)) }
+// The same of the merge of C and D. Once one of them is through, what is left of the other is looked through; from inside the loop, since a test behind it,
+// which of them that is, is compiled into every turn.
+fn merge_falls(c: &[u8], d: &[u8], reference: &[u32; PLACES], above: u32) -> bool
+    requires c_in_places { All (λ f. f < places) c.now }
+    requires d_in_places { All (λ f. f < places) d.now }
+    ensures { result ≡ falls_from reference.now above (merged reference.now c.now d.now) }
 {
+    let (mut c, mut d) = (c, d);
     let mut last = above;
-    let mut i = 0;
-    let mut j = 0;
-    while i < cn {
-        if dn <= j {
-            return falls(c, i, cn, reference, last);
-        }
-        let in_c = number_at(c, i, reference);
-        let in_d = number_at(d, j, reference);
-        if in_d < in_c {
-            if last <= in_c {
-                return false;
+    loop {
+        match (c, d) {
+            ([], _) => return falls(d, reference, last),
+            (_, []) => return falls(c, reference, last),
+            ([f, later_c @ ..], [g, later_d @ ..]) => {
+                let in_c = reference[*f as usize];
+                let in_d = reference[*g as usize];
+                if in_d < in_c {
+                    if last <= in_c {
+                        return false;
+                    }
+                    last = in_c;
+                    c = later_c;
+                } else {
+                    if last <= in_d {
+                        return false;
+                    }
+                    last = in_d;
+                    d = later_d;
+                }
             }
-            last = in_c;
-            i += 1;
-        } else {
-            if last <= in_d {
-                return false;
-            }
-            last = in_d;
-            j += 1;
         }
     }
-    falls(d, j, dn, reference, last)
 }
 
 // Whether the frames of a list have number 0.
-fn none_numbered(list: &[u8; PLACES], n: usize, reference: &[u32; PLACES]) -> bool
-    requires { (n ≤ places) × (length list.now ≡ places) × ((k : ℕ) → k < n → get_or list.now k 0 < places) }
-    ensures { result ≡ blank_all reference.now (take n list.now) }
+fn none_numbered(frames: &[u8], reference: &[u32; PLACES]) -> bool
+    requires { All (λ f. f < places) frames.now }
+    ensures { result ≡ list_all (λ f. slice_index reference.now f == 0) frames.now }
 {
-    let mut i = 0;
-    while i < n {
-        if number_at(list, i, reference) != 0 {
-            return false;
-        }
-        i += 1;
-    }
-    true
+    frames.iter().all(|&f| reference[f as usize] == 0)
 }
 
 // Whether every frame stands in exactly one list and all numbers are right. Where no frame is empty, numbers that fall show that none stands twice, and as
 // many as there are frames are all of them; only else frames are marked. The places behind the lists are 0, so that the test of C and D may look at all places.
 pub fn standing_right(
-    e: &[u8; PLACES],
-    en: usize,
-    c: &[u8; PLACES],
-    cn: usize,
-    d: &[u8; PLACES],
-    dn: usize,
+    lists: &FrameLists,
     frames: usize,
     reference: &[u32; PLACES],
     served: u32,
 ) -> bool
-    requires le_frames { (1 ≤ frames) × (frames ≤ places) × (en + (cn + dn) ≡ frames) × (served ≤ 1000000000) }
-    requires e_len { (length e.now ≡ places) × (length c.now ≡ places) × (length d.now ≡ places) }
-    requires c_value { (every is_zero (drop cn c.now) ≡ true) × (every is_zero (drop dn d.now) ≡ true) }
-    ensures { Decides result (StandingRight frames served (take en e.now) (take cn c.now) (take dn d.now)
-        reference.now) }
+    requires fit { (1 ≤ frames) × (frames ≤ places) × (served ≤ 1000000000)
+        × (lists.now.empty.len + (lists.now.clean.len + lists.now.dirty.len) ≡ frames) }
+    requires tails_zero { (every is_zero (drop lists.now.clean.len lists.now.clean.places) ≡ true)
+        × (every is_zero (drop lists.now.dirty.len lists.now.dirty.places) ≡ true) }
+    ensures { Decides result (StandingRight frames served (listed lists.now.empty) (listed lists.now.clean) (listed lists.now.dirty) reference.now) }
 {
-    if en == 0 {
+    let (clean, dirty) = (lists.clean.frames(), lists.dirty.frames());
+    if lists.empty.len == 0 {
         let last = (frames - 1) as u8;
-        if !frame_test::both_low(c, d, last) {
-            return false;
-        }
-        return merge_falls(c, cn, d, dn, reference, served + 1);
+        frame_test::both_low(&lists.clean.places, &lists.dirty.places, last)
+            && merge_falls(clean, dirty, reference, served + 1)
+    } else {
+        frame_test::frames_right(lists, frames)
+            && none_numbered(lists.empty.frames(), reference)
+            && merge_falls(clean, dirty, reference, served + 1)
     }
-    if !frame_test::frames_right(e, en, c, cn, d, dn, frames) {
-        return false;
-    }
-    if !none_numbered(e, en, reference) {
-        return false;
-    }
-    merge_falls(c, cn, d, dn, reference, served + 1)
 }

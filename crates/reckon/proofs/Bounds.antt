@@ -1,5 +1,5 @@
 -- The numbers of an adjustment are small: a step's numerator is a cost times a length, its denominator the sum of the costs times a length, and its units are
--- no more than what is divided.
+-- no more than what is divided. The check finds this of the code by itself; here it stands for whoever reckons a step elsewhere.
 -- Assumes nothing.
 use Prim.Native.Nat.{ℕ, ◌+◌, ◌*◌, ◌≤◌}
 use native.Mathlib.Nat.{mul-le-mul, mul-pos, div-le_self}

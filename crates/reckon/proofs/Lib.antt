@@ -1,2 +1,2 @@
--- The laws of `reckon`: Bounds for its own functions. Assumes nothing.
+-- The laws of `reckon`: Bounds, that its numbers are small. Assumes nothing.
 pub mod Bounds

@@ -7,6 +7,7 @@ ghost use Rattle.model.specs.Numbers.{unit};
 ghost use Rattle.model.specs.Target.{up, down, rounded, adjust, costs, most_cost};
 ghost use Rattle.model.specs.Request.{chosen_by, ChoiceIn};
 
+use costs::Costs;
 use model::Choice;
 
 // A step of `above` over `below` of a page, in units: to the nearest, a half upwards.
@@ -18,30 +19,23 @@ fn step_units(above: u64, below: u64) -> u64
 }
 
 // Up by a read hit in C, with `cn` clean and `dn` dirty frames.
-pub fn raise(frames: u64, target: u64, read_cost: u64, write_cost: u64, cn: u64, dn: u64) -> u64
-    requires { (frames ≤ places) × (target ≤ frames * unit) × (1 ≤ read_cost) × (read_cost ≤ most_cost) × (write_cost ≤ most_cost)
-        × (1 ≤ cn) × (cn ≤ places) × (dn ≤ places) }
-    ensures { result ≡ adjust frames target (up (costs read_cost write_cost) cn dn) }
+pub fn raise(frames: u64, target: u64, cost: Costs, cn: u64, dn: u64) -> u64
+    requires { (frames ≤ places) × (target ≤ frames * unit) × (1 ≤ cn) × (cn ≤ places) × (dn ≤ places) }
+    ensures { result ≡ adjust frames target (up (costs cost.read cost.write) cn dn) }
 {
-    let step = step_units(read_cost * dn, (read_cost + write_cost) * cn);
+    let step = step_units(cost.read * dn, (cost.read + cost.write) * cn);
     let sum = target + step;
     let top = frames * 65536;
-    if sum < top {
-        return sum;
-    }
-    top
+    sum.min(top)
 }
 
 // Down by a write hit in D.
-pub fn lower(frames: u64, target: u64, read_cost: u64, write_cost: u64, cn: u64, dn: u64) -> u64
-    requires { (1 ≤ read_cost) × (read_cost ≤ most_cost) × (write_cost ≤ most_cost) × (cn ≤ places) × (1 ≤ dn) × (dn ≤ places) }
-    ensures { result ≡ adjust frames target (down (costs read_cost write_cost) cn dn) }
+pub fn lower(frames: u64, target: u64, cost: Costs, cn: u64, dn: u64) -> u64
+    requires { (cn ≤ places) × (1 ≤ dn) × (dn ≤ places) }
+    ensures { result ≡ adjust frames target (down (costs cost.read cost.write) cn dn) }
 {
-    let step = step_units(write_cost * cn, (read_cost + write_cost) * dn);
-    if step < target {
-        return target - step;
-    }
-    0
+    let step = step_units(cost.write * cn, (cost.read + cost.write) * dn);
+    target.saturating_sub(step)
 }
 
 // Which frame is taken, by the lengths and the target: nothing else in the code knows.

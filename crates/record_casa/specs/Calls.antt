@@ -5,7 +5,7 @@
 -- Assumes nothing.
 use Rattle.std.specs.Prelude.{List, ℕ, ◌*◌, get_or}
 use Rattle.model.specs.Run.{Call, verdict_of}
-use Rattle.model.specs.declared.Verdict.{Verdict}
+use Rattle.model.specs.Words.{Verdict}
 use Rattle.pool.specs.declared.Pool.{Pool}
 use Rattle.casa.specs.Calls.{pools, world_of}
 use Rattle.trace.specs.declared.Record.{Record}
@@ -13,7 +13,7 @@ use Rattle.trace.specs.declared.Record.TheVariants.{Write}
 
 -- the page that was written last stands first in D: byte 0 of its frame
 abbrev pub written_record : Pool → ℕ → List ℕ → Record
-written_record p q frames = Write q (get_or frames (get_or p.dirty 0 0 * p.page_bytes) 0)
+written_record p q frames = Write q (get_or frames (get_or p.lists.dirty.places 0 0 * p.numbers.page_bytes) 0)
 
 -- whether a call is refused, by its rows
 unfoldable pub call_verdict : Pool → List ℕ → List ℕ → Call → Verdict

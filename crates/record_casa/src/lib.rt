@@ -12,29 +12,16 @@ ghost use Rattle.recorder.specs.Calls.{begin_after, recorded_left};
 ghost use Rattle.recorder.specs.Runs.{tape, value_of, recorded_by};
 ghost use Rattle.record_casa.specs.Calls.{written_record, call_verdict};
 
-use casa::{Dropped, Flushed, Served};
+use casa::Done;
+use model::Access;
 use pool::Pool;
 use recorder::{Recorded, Recorder};
 use trace::Record;
 
-// What a read or a write leaves, and what its record does.
+// What a call leaves, and what its record does.
 #[derive(Clone, Copy)]
-pub struct Noted {
-    pub served: Served,
-    pub recorded: Recorded,
-}
-
-// The same of a flush.
-#[derive(Clone, Copy)]
-pub struct NotedFlush {
-    pub flushed: Flushed,
-    pub recorded: Recorded,
-}
-
-// And of a drop.
-#[derive(Clone, Copy)]
-pub struct NotedDrop {
-    pub dropped: Dropped,
+pub struct Noted<T> {
+    pub done: Done<T>,
     pub recorded: Recorded,
 }
 
@@ -46,11 +33,11 @@ pub fn begin(pool: Pool, notes: &[u8], buffer: &mut [u8]) -> Recorded
     ensures { recorded_left result buffer.new ≡ begin_after (numbers_in pool) notes.now buffer.old }
 {
     recorder::begin(
-        pool.frames,
-        pool.page_bytes,
-        pool.pages,
-        pool.read_cost as usize,
-        pool.write_cost as usize,
+        pool.numbers.frames,
+        pool.numbers.page_bytes,
+        pool.numbers.pages,
+        pool.numbers.read_cost as usize,
+        pool.numbers.write_cost as usize,
         notes,
         buffer,
     )
@@ -81,7 +68,11 @@ pub fn written(pool: Pool, page: usize, frames: &[u8]) -> Record
 {
     Record::Write(
         page,
-        first_byte(frames, pool.dirty[0] as usize, pool.page_bytes),
+        first_byte(
+            frames,
+            pool.lists.dirty.places[0] as usize,
+            pool.numbers.page_bytes,
+        ),
     )
 }
 
@@ -96,17 +87,16 @@ pub fn read_page(
     out: &mut [u8],
     recorder: Recorder,
     buffer: &mut [u8],
-) -> Noted
-    ensures out_after { served_left result.served frames.new store.new out.new
+) -> Noted<Access>
+    ensures out_after { served_left result.done frames.new store.new out.new
         ≡ after pool frames.old store.old (run.read unmeasured page out.old) }
     ensures buffer_after { recorded_left result.recorded buffer.new
         ≡ recorded_by (call_verdict pool frames.old store.old (run.read unmeasured page out.old)) (Read page)
         (tape recorder buffer.old) }
 {
-    let served = casa::read_page(pool, page, frames, store, out);
-    let answer = served.answer;
-    let recorded = recorder::add_served(recorder, answer, Record::Read(page), buffer);
-    Noted { served, recorded }
+    let done = casa::read_page(pool, page, frames, store, out);
+    let recorded = recorder::add_served(recorder, done.answer, Record::Read(page), buffer);
+    Noted { done, recorded }
 }
 
 // Writes `bytes` into a page, from its byte `start` on. Refused as `casa::write_page` is; its record as `recorder::add` is.
@@ -119,20 +109,18 @@ pub fn write_page(
     store: &mut [u8],
     recorder: Recorder,
     buffer: &mut [u8],
-) -> Noted
-    ensures store_after { served_left result.served frames.new store.new []
+) -> Noted<Access>
+    ensures store_after { served_left result.done frames.new store.new []
         ≡ after pool frames.old store.old (run.write unmeasured page start bytes.now) }
     ensures buffer_after { recorded_left result.recorded buffer.new
         ≡ recorded_by (call_verdict pool frames.old store.old (run.write unmeasured page start bytes.now))
         (Write page (value_of pools (world_of pool frames.old store.old) unmeasured page start bytes.now))
         (tape recorder buffer.old) }
 {
-    let served = casa::write_page(pool, page, start, bytes, frames, store);
-    let answer = served.answer;
-    let left = served.pool;
-    let what = written(left, page, frames);
-    let recorded = recorder::add_served(recorder, answer, what, buffer);
-    Noted { served, recorded }
+    let done = casa::write_page(pool, page, start, bytes, frames, store);
+    let what = written(done.pool, page, frames);
+    let recorded = recorder::add_served(recorder, done.answer, what, buffer);
+    Noted { done, recorded }
 }
 
 // Writes every changed page to the store. Refused as `casa::flush` is; its record as `recorder::add` is.
@@ -142,16 +130,15 @@ pub fn flush(
     store: &mut [u8],
     recorder: Recorder,
     buffer: &mut [u8],
-) -> NotedFlush
-    ensures store_after { flushed_left result.flushed frames.now store.new
+) -> Noted<usize>
+    ensures store_after { flushed_left result.done frames.now store.new
         ≡ after pool frames.now store.old run.flush }
     ensures buffer_after { recorded_left result.recorded buffer.new
         ≡ recorded_by (call_verdict pool frames.now store.old run.flush) Flush (tape recorder buffer.old) }
 {
-    let flushed = casa::flush(pool, frames, store);
-    let answer = flushed.answer;
-    let recorded = recorder::add_flushed(recorder, answer, buffer);
-    NotedFlush { flushed, recorded }
+    let done = casa::flush(pool, frames, store);
+    let recorded = recorder::add_served(recorder, done.answer, Record::Flush, buffer);
+    Noted { done, recorded }
 }
 
 // Cuts a page. Refused as `casa::drop_page` is; its record as `recorder::add` is.
@@ -162,14 +149,13 @@ pub fn drop_page(
     store: &mut [u8],
     recorder: Recorder,
     buffer: &mut [u8],
-) -> NotedDrop
-    ensures store_after { dropped_left result.dropped frames.now store.new
+) -> Noted<()>
+    ensures store_after { dropped_left result.done frames.now store.new
         ≡ after pool frames.now store.old (run.drop page) }
     ensures buffer_after { recorded_left result.recorded buffer.new
         ≡ recorded_by (call_verdict pool frames.now store.old (run.drop page)) (Drop page) (tape recorder buffer.old) }
 {
-    let dropped = casa::drop_page(pool, page, frames, store);
-    let answer = dropped.answer;
-    let recorded = recorder::add_dropped(recorder, answer, page, buffer);
-    NotedDrop { dropped, recorded }
+    let done = casa::drop_page(pool, page, frames, store);
+    let recorded = recorder::add_served(recorder, done.answer, Record::Drop(page), buffer);
+    Noted { done, recorded }
 }

@@ -8,6 +8,7 @@
 --     recording-adds            to record calls as they are served is to add their records one after the other
 --     recorded-value            a write is recorded with byte 0 of its page, as the page's history has it after the write
 -- Assumes nothing.
+use Rattle.std.specs.Prelude.{Ok, Err}
 use mathlib.Core.Path.{◌≡◌, refl, sym, ap, ap₂, ◌∙◌}
 use mathlib.Core.Bool.{Bool, true}
 use mathlib.Core.List.{List, [], ◌∷◌, ◌++◌}
@@ -27,8 +28,7 @@ use Rattle.model.specs.Run.{Call, read, write, flush, drop, total, times_of, Wor
 use Rattle.model.specs.Run.{verdict_of, costs_in, outcome_of, written_in, served, left_by, left, after, told_by, brought_by, gathered}
 use Rattle.model.specs.declared.Op.{Op}
 use Rattle.model.specs.declared.Op.TheVariants.{Read as Reads, Write as Writes}
-use Rattle.model.specs.declared.Verdict.{Verdict}
-use Rattle.model.specs.declared.Verdict.TheVariants.{Fine, Refused}
+use Rattle.model.specs.Words.{Verdict}
 use Rattle.model.proofs.Moves.{put-same}
 use Rattle.model.proofs.Times.{opened-in-force}
 use Rattle.model.proofs.Refusals.{RequestClear, ReadyIn, request-fine, flush-fine, drop-fine, call-cases}
@@ -49,18 +49,18 @@ first-fits P start n e = let a = stretch-fits P start n e in le-leb 1 P (omega a
 -- ---- one call of a run
 
 module _ (π : Policy) where
-  left-served : (x : World π.State) (c : Call) → verdict_of π x c ≡ Fine → left π x c ≡ served π x c
+  left-served : (x : World π.State) (c : Call) → verdict_of π x c ≡ Ok tt → left π x c ≡ served π x c
   unfolding left
   left-served x c e = ap (λ (v : Verdict). left_by π v x c) e
 
   -- a served call shows what it brings a record for
   brought-length : (x : World π.State) (c : Call) (v : Verdict) → length (brought_by π v (shown π x c)) ≡ length (brought_by π v (records_of π x c))
-  brought-length x c (Refused y) = refl
-  brought-length x (read t q out) Fine = refl
-  brought-length x (write t q start bytes) Fine = refl
-  brought-length x flush Fine = refl
-  brought-length x (drop q) Fine = refl
-  brought-length x total Fine = refl
+  brought-length x c (Err y) = refl
+  brought-length x (read t q out) (Ok _) = refl
+  brought-length x (write t q start bytes) (Ok _) = refl
+  brought-length x flush (Ok _) = refl
+  brought-length x (drop q) (Ok _) = refl
+  brought-length x total (Ok _) = refl
 
   shown-length : (cs : List Call) (x : World π.State) → length (gathered π (shown π) x cs) ≡ length (gathered π (records_of π) x cs)
   shown-length [] x = refl
@@ -101,8 +101,8 @@ module _ (π : Policy) where
 
   -- a call shows at most one thing
   brought-most : {A : Type 0} (v : Verdict) (a : A) (zs : List A) (m : ℕ) → length zs ≤ m → length (brought_by π v (a ∷ []) ++ zs) ≤ suc m
-  brought-most (Refused y) a zs m l = omega arith
-  brought-most Fine a zs m l = omega arith
+  brought-most (Err y) a zs m l = omega arith
+  brought-most (Ok _) a zs m l = omega arith
 
   shown-most : (out : List ℕ) (rs : List Record) (y : World π.State) → length (gathered π (shown π) y (calls_of out rs)) ≤ length rs
   shown-most out [] y = omega arith
@@ -113,8 +113,8 @@ module _ (π : Policy) where
   -- so where there are as many things as calls, each shows one
   brought-front : {A : Type 0} (v : Verdict) (a : A) (ws zs : List A) (m k : ℕ) → length zs ≤ m → length (brought_by π v (a ∷ []) ++ zs) ≡ suc m
       → (length zs ≡ m → ws ≡ take k zs) → brought_by π v (a ∷ []) ++ ws ≡ take (suc k) (brought_by π v (a ∷ []) ++ zs)
-  brought-front (Refused y) a ws zs m k l e rest = absurd (omega arith)
-  brought-front {A} Fine a ws zs m k l e rest = ap (λ (us : List A). a ∷ us) (rest (omega arith))
+  brought-front (Err y) a ws zs m k l e rest = absurd (omega arith)
+  brought-front {A} (Ok _) a ws zs m k l e rest = ap (λ (us : List A). a ∷ us) (rest (omega arith))
 
   shown-front : (out : List ℕ) (rs : List Record) (y : World π.State) → length (gathered π (shown π) y (calls_of out rs)) ≡ length rs
       → (k : ℕ) → gathered π (shown π) y (calls_of out (take k rs)) ≡ take k (gathered π (shown π) y (calls_of out rs))
@@ -142,27 +142,27 @@ module _ (π : Policy) (ok : Lawful π) where
 
     request-again : (t : Times) (q : ℕ) (f g : Bool) → RequestClear π x t q f → g ≡ true
         → first (broken_pool (π.sound y.state) ∷ request_rows true (π.numbers y.state) (π.counts y.state).served
-        (length y.memory.frames) (length y.memory.store) q g) ≡ Fine
+        (length y.memory.frames) (length y.memory.store) q g) ≡ Ok tt
     request-again t q f g a e =
         request-fine (π.sound y.state) true (π.numbers y.state) (π.counts y.state).served _ _ q g
         (rw same at a.0) refl (ready-again a.1) (rw same at a.2) e
 
-    read-again : (t : Times) (q : ℕ) (out lent : List ℕ) → length out ≡ (π.numbers y.state).P → verdict_of π x (read t q lent) ≡ Fine
-        → verdict_of π y (call_of out (Read q)) ≡ Fine
+    read-again : (t : Times) (q : ℕ) (out lent : List ℕ) → length out ≡ (π.numbers y.state).P → verdict_of π x (read t q lent) ≡ Ok tt
+        → verdict_of π y (call_of out (Read q)) ≡ Ok tt
     read-again t q out lent fit e = request-again t q _ _ (read-clear π x t q lent e) (eq-eqb (length out) _ fit)
 
-    write-again : (t : Times) (q start v : ℕ) (out bytes : List ℕ) → verdict_of π x (write t q start bytes) ≡ Fine
-        → verdict_of π y (call_of out (Write q v)) ≡ Fine
+    write-again : (t : Times) (q start v : ℕ) (out bytes : List ℕ) → verdict_of π x (write t q start bytes) ≡ Ok tt
+        → verdict_of π y (call_of out (Write q v)) ≡ Ok tt
     write-again t q start v out bytes e =
         let a = write-clear π x t q start bytes e in
         request-again t q _ _ a (rw same at (first-fits (π.numbers x.state).P start (length bytes) a.3))
 
-    flush-again : (out : List ℕ) → verdict_of π x flush ≡ Fine → verdict_of π y (call_of out Flush) ≡ Fine
+    flush-again : (out : List ℕ) → verdict_of π x flush ≡ Ok tt → verdict_of π y (call_of out Flush) ≡ Ok tt
     flush-again out e =
         let a = flush-ready π x e in
         flush-fine (π.sound y.state) (π.numbers y.state) (π.counts y.state).served _ _ (rw same at a.0) (ready-again a.1)
 
-    drop-again : (q : ℕ) (out : List ℕ) → verdict_of π x (drop q) ≡ Fine → verdict_of π y (call_of out (Drop q)) ≡ Fine
+    drop-again : (q : ℕ) (out : List ℕ) → verdict_of π x (drop q) ≡ Ok tt → verdict_of π y (call_of out (Drop q)) ≡ Ok tt
     drop-again q out e =
         let a = drop-ready π x q e in
         drop-fine (π.sound y.state) (π.numbers y.state) (π.counts y.state).served _ _ q
@@ -170,7 +170,7 @@ module _ (π : Policy) (ok : Lawful π) where
 
     -- a call of x and one of y that are both served and show the same: what is left of a run goes on from where they lead
     module _ (cs : List Call) (out : List ℕ) (fit : length out ≡ (π.numbers y.state).P) (rest : Again cs) where
-      goes-on : (c d : Call) → verdict_of π x c ≡ Fine → verdict_of π y d ≡ Fine → shown_by π (served π x c) ≡ shown_by π (served π y d)
+      goes-on : (c d : Call) → verdict_of π x c ≡ Ok tt → verdict_of π y d ≡ Ok tt → shown_by π (served π x c) ≡ shown_by π (served π y d)
           → shown_of π x c ++ gathered π (shown π) (world_of π (served π x c)) cs
           ≡ brought_by π (verdict_of π y d) (shown_of π y d)
           ++ gathered π (shown π) (after π y d) (calls_of out (gathered π (records_of π) (world_of π (served π x c)) cs))
@@ -188,7 +188,7 @@ module _ (π : Policy) (ok : Lawful π) where
       requested-again op t q f o =
           ap (λ (k : Costs). requested_at π op q k x.state) (opened-in-force t (costs_of (π.numbers x.state)) f o) ∙ ap (requested π op q) same
 
-      served-again : (c : Call) → as_opened (times_of c) ≡ true → verdict_of π x c ≡ Fine
+      served-again : (c : Call) → as_opened (times_of c) ≡ true → verdict_of π x c ≡ Ok tt
           → shown π x c ++ gathered π (shown π) (world_of π (served π x c)) cs
           ≡ gathered π (shown π) y (calls_of out (records_of π x c ++ gathered π (records_of π) (world_of π (served π x c)) cs))
       served-again (read t q lent) o e =
@@ -235,12 +235,12 @@ module _ (π : Policy) (ok : Lawful π) where
   brought-in x c = go c (verdict_of π x c) refl
     where
       go : (d : Call) (v : Verdict) → verdict_of π x d ≡ v → RecordsIn (π.numbers x.state).N (brought_by π v (records_of π x d))
-      go d (Refused y) e = tt
-      go (read t q out) Fine e = ((read-clear π x t q out e).2, tt)
-      go (write t q start bytes) Fine e = ((write-clear π x t q start bytes e).2, tt)
-      go flush Fine e = (tt, tt)
-      go (drop q) Fine e = ((drop-ready π x q e).2, tt)
-      go total Fine e = tt
+      go d (Err y) e = tt
+      go (read t q out) (Ok _) e = ((read-clear π x t q out e).2, tt)
+      go (write t q start bytes) (Ok _) e = ((write-clear π x t q start bytes e).2, tt)
+      go flush (Ok _) e = (tt, tt)
+      go (drop q) (Ok _) e = ((drop-ready π x q e).2, tt)
+      go total (Ok _) e = tt
 
   pub records-in : (cs : List Call) (x : World π.State) → ok.Good x.state → RecordsIn (π.numbers x.state).N (gathered π (records_of π) x cs)
   records-in [] x g = tt
@@ -250,7 +250,7 @@ module _ (π : Policy) (ok : Lawful π) where
 
   -- the frame has the page as its history has it after the write
   pub recorded-value : (x : World π.State) (h : History) → Right π ok x h → (t : Times) (q start : ℕ) (bytes : List ℕ)
-      → verdict_of π x (write t q start bytes) ≡ Fine → value_of π x t q start bytes ≡ get_or (laid q start bytes h q) 0 0
+      → verdict_of π x (write t q start bytes) ≡ Ok tt → value_of π x t q start bytes ≡ get_or (laid q start bytes h q) 0 0
   recorded-value x h r t q start bytes e =
       let a = write-clear π x t q start bytes e in
       let k = ok.request Writes (costs_in π x t) x.state q r.good a.2 a.1.more in
@@ -271,12 +271,12 @@ adds-append x (r ∷ rs) qs = adds-append (after_add x r) rs qs
 
 -- one call: what is brought is added
 recorded-by : (π : Policy) (v : Verdict) (r : Record) (x : Tape) → tape_of (recorded_by v r x) ≡ after_adds x (brought_by π v (r ∷ []))
-recorded-by π (Refused y) r x = refl
-recorded-by π Fine r x = refl
+recorded-by π (Err y) r x = refl
+recorded-by π (Ok _) r x = refl
 
 nothing-added : (π : Policy) (v : Verdict) (x : Tape) → x ≡ after_adds x (brought_by π v [])
-nothing-added π (Refused y) x = refl
-nothing-added π Fine x = refl
+nothing-added π (Err y) x = refl
+nothing-added π (Ok _) x = refl
 
 recorded-adds : (π : Policy) (w : World π.State) (c : Call) (x : Tape)
     → after_recorded π w c x ≡ after_adds x (brought_by π (verdict_of π w c) (records_of π w c))

@@ -3,6 +3,7 @@
 -- stays; one that is refused leaves all as it was. So closing is never refused, and what it leaves at the front is the encoded trace, which the reader accepts;
 -- no byte behind it was ever touched. A record that the reader would accept is refused for want of room alone, and then so is every further one: a front of
 -- such records is kept. Assumes nothing.
+use Rattle.std.specs.Prelude.{Ok, Err}
 use mathlib.Core.Path.{◌≡◌, refl, sym, ap, ◌∙◌}
 use mathlib.Core.Bool.{Bool, true, false}
 use mathlib.Core.List.{List, [], ◌∷◌, ◌++◌, append_assoc, append-nil}
@@ -16,8 +17,7 @@ use Rattle.pages.proofs.Splice.{splice-length, splice-front, splice-before, spli
 use Rattle.model.specs.Numbers.{Numbers, in_limits}
 use Rattle.model.specs.Refusals.{first}
 use Rattle.model.specs.declared.Refusal.TheVariants.{NoRoom}
-use Rattle.model.specs.declared.Verdict.{Verdict}
-use Rattle.model.specs.declared.Verdict.TheVariants.{Fine, Refused}
+use Rattle.model.specs.Words.{Verdict}
 use Rattle.model.proofs.Refusals.{first-clear, not-false}
 use Rattle.trace.specs.Format.{trailer_length, recorded_on}
 use Rattle.trace.specs.Encode.{record_bytes, records_bytes, trailer_of, trailer_bytes, trace_bytes, RecordIn, RecordsIn}
@@ -46,7 +46,7 @@ pub record Wrote (n : Numbers) (notes : List ℕ) (rs : List Record) (b₀ : Lis
   pub front : take (length notes + 4 * length rs) x.buffer ≡ notes ++ records_bytes rs
   pub past : drop (length notes + (4 * length rs + trailer_length)) x.buffer ≡ drop (length notes + (4 * length rs + trailer_length)) b₀
 
-pub begin-wrote : (n : Numbers) (notes b : List ℕ) → begin_verdict n (length notes) (length b) ≡ Fine → Wrote n notes [] b (tape_of (begin_after n notes b))
+pub begin-wrote : (n : Numbers) (notes b : List ℕ) → begin_verdict n (length notes) (length b) ≡ Ok tt → Wrote n notes [] b (tape_of (begin_after n notes b))
 unfolding begin_after begin_verdict
 begin-wrote n notes b e =
     let c = first-clear (begin_rows n (length notes) (length b)) e in
@@ -82,16 +82,16 @@ module _ {n : Numbers} {notes : List ℕ} {rs : List Record} {b₀ : List ℕ} {
   add-verdict r = rw (w.recorder, w.size)
 
   add-fine : (r : Record) → RecordIn n.N r → room_for (length notes) (length rs + 1) (length b₀) ≡ true
-      → add_verdict x.recorder r (length x.buffer) ≡ Fine
+      → add_verdict x.recorder r (length x.buffer) ≡ Ok tt
   add-fine r h m = add-verdict r ∙ rw (w.numbers, in-found n.N r h, m)
 
   add-none : (r : Record) → RecordIn n.N r → room_for (length notes) (length rs + 1) (length b₀) ≡ false
-      → add_verdict x.recorder r (length x.buffer) ≡ Refused NoRoom
+      → add_verdict x.recorder r (length x.buffer) ≡ Err NoRoom
   add-none r h m = add-verdict r ∙ rw (w.numbers, in-found n.N r h, m)
 
   -- it goes just behind the front
-  added : (r : Record) → add_verdict x.recorder r (length x.buffer) ≡ Fine
-      → Wrote n notes (rs ++ r ∷ []) b₀ (tape_of (add_if Fine x.recorder r x.buffer))
+  added : (r : Record) → add_verdict x.recorder r (length x.buffer) ≡ Ok tt
+      → Wrote n notes (rs ++ r ∷ []) b₀ (tape_of (add_if (Ok tt) x.recorder r x.buffer))
   added r e =
       let c = first-clear (add_rows (recorder_of n (length notes) (length rs)) r (length b₀)) (sym (add-verdict r) ∙ e) in
       let m : room_for (length notes) (length rs + 1) (length b₀) ≡ true = not-false _ c.1.1.0 in
@@ -123,8 +123,8 @@ module _ {n : Numbers} {notes : List ℕ} {rs : List Record} {b₀ : List ℕ} {
     where
       go : (v : Verdict) → add_verdict x.recorder r (length x.buffer) ≡ v
           → Wrote n notes (rs ++ kept_by v r) b₀ (tape_of (add_if v x.recorder r x.buffer))
-      go (Refused y) e = rw append-nil w
-      go Fine e = added r e
+      go (Err y) e = rw append-nil w
+      go (Ok _) e = added r e
 
   -- ---- closing
 
@@ -132,7 +132,7 @@ module _ {n : Numbers} {notes : List ℕ} {rs : List Record} {b₀ : List ℕ} {
   trailer = trailer_bytes (trailer_of x.recorder.records (numbers_of x.recorder))
 
   -- it is never refused
-  pub close-fine : close_verdict x.recorder (length x.buffer) ≡ Fine
+  pub close-fine : close_verdict x.recorder (length x.buffer) ≡ Ok tt
   unfolding close_verdict
   close-fine = rw (w.recorder, w.size, w.numbers, w.room)
 
@@ -192,7 +192,7 @@ adds-wrote {rs = rs} {x = x} w (q ∷ qs) =
     rw (← append_assoc) (adds-wrote {rs = rs ++ kept_by (add_verdict x.recorder q (length x.buffer)) q} (add-wrote w q) qs)
 
 -- one that is not refused is kept in front of those behind it
-kept-one : (x : Tape) (q : Record) (qs ls : List Record) → add_verdict x.recorder q (length x.buffer) ≡ Fine → kept (after_add x q) qs ≡ ls
+kept-one : (x : Tape) (q : Record) (qs ls : List Record) → add_verdict x.recorder q (length x.buffer) ≡ Ok tt → kept (after_add x q) qs ≡ ls
     → kept x (q ∷ qs) ≡ q ∷ ls
 kept-one x q qs ls fine e = rw fine (ap (λ (zs : List Record). q ∷ zs) e)
 
@@ -212,7 +212,7 @@ unfolding add_after
 kept-none w [] h m = refl
 kept-none w (q ∷ qs) h m = rw (add-none w q h.0 m) (kept-none w qs h.1 m)
 
-front-one : (x : Tape) (q : Record) (qs : List Record) → add_verdict x.recorder q (length x.buffer) ≡ Fine
+front-one : (x : Tape) (q : Record) (qs : List Record) → add_verdict x.recorder q (length x.buffer) ≡ Ok tt
     → (k : ℕ) × (kept (after_add x q) qs ≡ take k qs) → (k : ℕ) × (kept x (q ∷ qs) ≡ take k (q ∷ qs))
 front-one x q qs fine f = (suc f.0, kept-one x q qs (take f.0 qs) fine f.1)
 

@@ -1,33 +1,30 @@
 -- Each promise allows one result: two results of a call that meet it are equal, the returned struct and every byte of the lent buffer. What an answer says
 -- leads back to the answer, so nothing is lost by stating promises in the scope's words. The laws speak of any right result l, so each serves every call that
 -- returns its struct. Assumes nothing.
+use Rattle.std.specs.Prelude.{Ok, Err}
 use mathlib.Core.Path.{◌≡◌, refl, sym, ap, ◌∙◌}
 use mathlib.Core.List.{List}
 use Prim.Native.Nat.{ℕ}
-use native.Mathlib.Omega.{arith}
 use Rattle.model.proofs.Words.{refusal-one-to-one}
-use Rattle.recorder.specs.Words.{recording_says, closing_says}
+use Rattle.model.specs.Words.{Verdict}
+use Rattle.recorder.specs.Words.{Closing, recording_says, closing_says}
 use Rattle.recorder.specs.Calls.{RecorderLeft, recorded_left, closed_left}
 use Rattle.recorder.specs.declared.Recorder.{Recorder}
-use Rattle.recorder.specs.declared.Recording.{Recording}
-use Rattle.recorder.specs.declared.Recording.TheVariants as recording
 use Rattle.recorder.specs.declared.Recorded.{Recorded}
-use Rattle.recorder.specs.declared.Closing.{Closing}
-use Rattle.recorder.specs.declared.Closing.TheVariants as closing
 
 -- ---- what an answer says
 
-pub recording-one-to-one : (x y : Recording) → recording_says x ≡ recording_says y → x ≡ y
-recording-one-to-one (recording.Refused x) (recording.Refused y) e = ap recording.Refused (refusal-one-to-one x y (cc))
-recording-one-to-one (recording.Refused x) recording.Recorded e = absurd (let z : ◌≡◌ {A = ℕ} 0 1 = cc in omega arith)
-recording-one-to-one recording.Recorded (recording.Refused y) e = absurd (let z : ◌≡◌ {A = ℕ} 0 1 = cc in omega arith)
-recording-one-to-one recording.Recorded recording.Recorded e = refl
+pub recording-one-to-one : (x y : Verdict) → recording_says x ≡ recording_says y → x ≡ y
+recording-one-to-one (Err x) (Err y) e = ap Err (refusal-one-to-one x y (cc))
+recording-one-to-one (Err x) (Ok u) e = cc
+recording-one-to-one (Ok t) (Err y) e = cc
+recording-one-to-one (Ok t) (Ok u) e = refl
 
 pub closing-one-to-one : (x y : Closing) → closing_says x ≡ closing_says y → x ≡ y
-closing-one-to-one (closing.Refused x) (closing.Refused y) e = ap closing.Refused (refusal-one-to-one x y (cc))
-closing-one-to-one (closing.Refused x) (closing.Closed n) e = absurd (let z : ◌≡◌ {A = ℕ} 0 1 = cc in omega arith)
-closing-one-to-one (closing.Closed m) (closing.Refused y) e = absurd (let z : ◌≡◌ {A = ℕ} 0 1 = cc in omega arith)
-closing-one-to-one (closing.Closed m) (closing.Closed n) e = ap closing.Closed (cc)
+closing-one-to-one (Err x) (Err y) e = ap Err (refusal-one-to-one x y (cc))
+closing-one-to-one (Err x) (Ok n) e = cc
+closing-one-to-one (Ok m) (Err y) e = cc
+closing-one-to-one (Ok m) (Ok n) e = ap Ok (cc)
 
 -- ---- what a call leaves
 

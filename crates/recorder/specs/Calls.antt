@@ -2,22 +2,19 @@
 --     begin_after, add_after, close_after     what a call leaves: the recorder, what is said, every byte of the lent buffer
 --     recorded_left, closed_left             what a call returned, with the buffer as it left it
 -- Assumes nothing.
-use Rattle.std.specs.Prelude.{Bool, not, ◌&&◌, List, [], ◌∷◌, ℕ, ◌+◌, ◌*◌, ◌^◌, leb, ltb, length}
+use Rattle.std.specs.Prelude.{Bool, not, ◌&&◌, List, [], ◌∷◌, ℕ, ◌+◌, ◌*◌, ◌^◌, leb, ltb, length, Option, is_none, Ok, Err}
 use Rattle.pages.specs.Pages.{splice}
 use Rattle.model.specs.Numbers.{Numbers, numbers}
 use Rattle.model.specs.Refusals.{Row, first, out_of_limits}
 use Rattle.model.specs.declared.Refusal.TheVariants.{BadRecord, NoRoom}
-use Rattle.model.specs.declared.Verdict.{Verdict}
-use Rattle.model.specs.declared.Verdict.TheVariants.{Fine, Refused}
-use Rattle.trace.specs.Format.{trailer_length, recorded_on, record_of, is_end}
+use Rattle.model.specs.Words.{Verdict}
+use Rattle.trace.specs.Format.{trailer_length, recorded_on, record_of}
 use Rattle.trace.specs.Encode.{record_bytes, trailer_of, trailer_bytes}
 use Rattle.trace.specs.declared.Record.{Record}
 use Rattle.trace.specs.declared.Record.TheVariants.{Read, Write, Flush, Drop}
-use Rattle.trace.specs.declared.Next.{Next}
-use Rattle.recorder.specs.Words.{RecorderSaid, recorded, closed, refusal_says, recording_says, closing_says}
+use Rattle.recorder.specs.Words.{Closing, RecorderSaid, recorded, closed, refusal_says, recording_says, closing_says}
 use Rattle.recorder.specs.declared.Recorder.{Recorder}
 use Rattle.recorder.specs.declared.Recorded.{Recorded}
-use Rattle.recorder.specs.declared.Closing.{Closing}
 
 -- ---- a recorder
 
@@ -54,7 +51,7 @@ abbrev pub wrong_numbers : Numbers → Row
 wrong_numbers n = out_of_limits (recorded_on n)
 
 -- what the reader would find for a record of a trace over N pages; none where it would refuse the record, whose page is not cut to 16 bits first
-abbrev pub found_for : ℕ → Record → Next
+abbrev pub found_for : ℕ → Record → Option Record
 found_for N (Read q) = record_of N 82 0 q
 found_for N (Write q v) = record_of N 87 v q
 found_for N Flush = record_of N 70 0 0
@@ -62,7 +59,7 @@ found_for N (Drop q) = record_of N 68 0 q
 
 -- "8 for a record the reader would refuse": it would have been record k, counted from 1
 abbrev pub refused_record : ℕ → ℕ → Record → Row
-refused_record N k r = record { when = is_end (found_for N r); why = BadRecord k }
+refused_record N k r = record { when = is_none (found_for N r); why = BadRecord k }
 
 -- k records from byte `start` on, and the trailer, fit n bytes; and the distance fits 32 bits
 unfoldable pub room_for : ℕ → ℕ → ℕ → Bool
@@ -101,24 +98,24 @@ pub record RecorderLeft : Type 0 where
 
 -- "begin with notes in a lent buffer": they are copied to its front
 abbrev pub begin_if : Verdict → Numbers → List ℕ → List ℕ → RecorderLeft
-begin_if (Refused y) n notes buffer = record { recorder = zero_recorder; said = refusal_says y; buffer = buffer }
-begin_if Fine n notes buffer = record { recorder = recorder_of n (length notes) 0; said = recorded; buffer = splice 0 notes buffer }
+begin_if (Err y) n notes buffer = record { recorder = zero_recorder; said = refusal_says y; buffer = buffer }
+begin_if (Ok _) n notes buffer = record { recorder = recorder_of n (length notes) 0; said = recorded; buffer = splice 0 notes buffer }
 
 unfoldable pub begin_after : Numbers → List ℕ → List ℕ → RecorderLeft
 begin_after n notes buffer = begin_if (begin_verdict n (length notes) (length buffer)) n notes buffer
 
 -- "add a record"
 abbrev pub add_if : Verdict → Recorder → Record → List ℕ → RecorderLeft
-add_if (Refused y) x r buffer = record { recorder = x; said = refusal_says y; buffer = buffer }
-add_if Fine x r buffer = record { recorder = one_more x; said = recorded; buffer = splice (end_of x) (record_bytes r) buffer }
+add_if (Err y) x r buffer = record { recorder = x; said = refusal_says y; buffer = buffer }
+add_if (Ok _) x r buffer = record { recorder = one_more x; said = recorded; buffer = splice (end_of x) (record_bytes r) buffer }
 
 unfoldable pub add_after : Recorder → Record → List ℕ → RecorderLeft
 add_after x r buffer = add_if (add_verdict x r (length buffer)) x r buffer
 
 -- "close with the trailer"; the recorder stays, so a further record goes over the trailer, and a further trailer behind that
 abbrev pub close_if : Verdict → Recorder → List ℕ → RecorderLeft
-close_if (Refused y) x buffer = record { recorder = x; said = refusal_says y; buffer = buffer }
-close_if Fine x buffer =
+close_if (Err y) x buffer = record { recorder = x; said = refusal_says y; buffer = buffer }
+close_if (Ok _) x buffer =
     record {
       recorder = x;
       said = closed (end_of x + trailer_length);

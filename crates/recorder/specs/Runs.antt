@@ -7,25 +7,17 @@
 --     shown                what a run shows of a served call
 --     AsOpened             calls that had the opened costs, or were refused for their kept numbers
 -- Assumes nothing.
-use Rattle.std.specs.Prelude.{◌≡◌, true, List, [], ◌∷◌, ◌++◌, ℕ, length, get_or}
+use Rattle.std.specs.Prelude.{◌≡◌, true, List, [], ◌∷◌, ◌++◌, ℕ, length, get_or, Result, Ok, Err}
 use Rattle.pages.specs.Pages.{page_of}
 use Rattle.model.specs.Numbers.{Numbers}
-use Rattle.model.specs.Words.{Said}
+use Rattle.model.specs.Words.{Verdict, Said}
 use Rattle.model.specs.Policy.{Policy}
 use Rattle.model.specs.Times.{Times, unmeasured, as_opened}
 use Rattle.model.specs.Run.{Call, read, write, flush, drop, total, times_of, World, verdict_of, outcome_of, written_in, left, after}
 use Rattle.model.specs.declared.Op.TheVariants.{Write as Writes}
-use Rattle.model.specs.declared.Answer.{Answer}
-use Rattle.model.specs.declared.Answer.TheVariants as answer
-use Rattle.model.specs.declared.Flushing.{Flushing}
-use Rattle.model.specs.declared.Flushing.TheVariants as flushing
-use Rattle.model.specs.declared.Dropping.{Dropping}
-use Rattle.model.specs.declared.Dropping.TheVariants as dropping
-use Rattle.model.specs.declared.Verdict.{Verdict}
-use Rattle.model.specs.declared.Verdict.TheVariants.{Fine, Refused}
+use Rattle.model.specs.declared.Refusal.{Refusal}
 use Rattle.trace.specs.Format.{numbers_in, checked_of, notes_in, records_in}
 use Rattle.trace.specs.Encode.{trailer_of}
-use Rattle.trace.specs.declared.Checked.TheVariants as checked
 use Rattle.trace.specs.declared.Record.{Record}
 use Rattle.trace.specs.declared.Record.TheVariants.{Read, Write, Flush, Drop}
 use Rattle.recorder.specs.Words.{refusal_says}
@@ -55,8 +47,8 @@ abbrev pub after_close : Tape → Tape
 after_close x = tape_of (close_after x.recorder x.buffer)
 
 abbrev pub kept_by : Verdict → Record → List Record
-kept_by (Refused y) r = []
-kept_by Fine r = r ∷ []
+kept_by (Err y) r = []
+kept_by (Ok _) r = r ∷ []
 
 -- those that are not refused
 abbrev pub kept : Tape → List Record → List Record
@@ -65,7 +57,7 @@ kept x (r ∷ rs) = kept_by (add_verdict x.recorder r (length x.buffer)) r ++ ke
 
 -- bytes that the reader accepts, and reads as these notes, records and numbers
 pub record Reads (s notes : List ℕ) (rs : List Record) (n : Numbers) : Type 0 where
-  pub accepted : checked_of s ≡ checked.Fine (trailer_of (length rs) n)
+  pub accepted : checked_of s ≡ Ok (trailer_of (length rs) n)
   pub notes_same : notes_in s (trailer_of (length rs) n) ≡ notes
   pub records_same : records_in s (trailer_of (length rs) n) ≡ rs
   pub numbers_same : numbers_in (trailer_of (length rs) n) ≡ n
@@ -106,22 +98,13 @@ module _ (π : Policy) where
 -- served though its record is refused
 
 -- whether a call was refused, by its answer
-abbrev pub answer_verdict : Answer → Verdict
-answer_verdict (answer.Refused x) = Refused x
-answer_verdict answer.Hit = Fine
-answer_verdict (answer.Fault v) = Fine
-
-abbrev pub flushing_verdict : Flushing → Verdict
-flushing_verdict (flushing.Refused x) = Refused x
-flushing_verdict (flushing.Wrote n) = Fine
-
-abbrev pub dropping_verdict : Dropping → Verdict
-dropping_verdict (dropping.Refused x) = Refused x
-dropping_verdict dropping.Dropped = Fine
+abbrev pub answer_verdict : {T : Type 0} → Result T Refusal → Verdict
+answer_verdict (Err x) = Err x
+answer_verdict (Ok t) = Ok tt
 
 abbrev pub recorded_by : Verdict → Record → Tape → RecorderLeft
-recorded_by (Refused y) r x = record { recorder = x.recorder; said = refusal_says y; buffer = x.buffer }
-recorded_by Fine r x = add_after x.recorder r x.buffer
+recorded_by (Err y) r x = record { recorder = x.recorder; said = refusal_says y; buffer = x.buffer }
+recorded_by (Ok _) r x = add_after x.recorder r x.buffer
 
 module _ (π : Policy) where
   -- the recorder after a call; a total leaves it

@@ -6,21 +6,19 @@
 // numbers that it holds, which in a sound pool are never 0: `record_casa::begin` takes them from it.
 #![tactic(auto)]
 
-ghost use Rattle.std.specs.Prelude.{◌≡◌, not, ◌≤◌};
+ghost use Rattle.std.specs.Prelude.{◌≡◌, ◌≤◌, is_some};
 ghost use Rattle.model.specs.Numbers.{numbers};
-ghost use Rattle.trace.specs.Format.{is_end};
 ghost use Rattle.trace.specs.Encode.{trailer_of};
-ghost use Rattle.trace.specs.declared.Record.TheVariants.{Flush, Drop};
-ghost use Rattle.recorder.specs.Calls.{numbers_of, zero_recorder, found_for, room_for, add_verdict, close_verdict};
+ghost use Rattle.recorder.specs.Calls.{numbers_of, found_for, room_for, add_verdict, close_verdict};
 ghost use Rattle.recorder.specs.Calls.{begin_after, add_after, close_after, recorded_left, closed_left};
-ghost use Rattle.recorder.specs.Runs.{tape, answer_verdict, flushing_verdict, dropping_verdict, recorded_by};
+ghost use Rattle.recorder.specs.Runs.{tape, answer_verdict, recorded_by};
 
-use model::{Answer, Dropping, Flushing, Refusal, Verdict};
+use model::Refusal;
 use trace::{Record, Trailer};
 
 // The numbers as a trailer holds them, where the records start in the buffer, and how many there are. It holds nothing that could contradict the buffer: that
 // is lent to each call, and may be another one.
-#[derive(Clone, Copy)]
+#[derive(Clone, Copy, Default)]
 pub struct Recorder {
     pub frames: usize,
     pub page_bytes: usize,
@@ -32,24 +30,11 @@ pub struct Recorder {
     pub records: u32,
 }
 
-// What `begin` and `add` answer.
-#[derive(Clone, Copy)]
-pub enum Recording {
-    Refused(Refusal),
-    Recorded,
-}
-
+// What `begin` and `add` return.
 #[derive(Clone, Copy)]
 pub struct Recorded {
     pub recorder: Recorder,
-    pub answer: Recording,
-}
-
-// What `close` answers: how many bytes of the buffer are the trace.
-#[derive(Clone, Copy)]
-pub enum Closing {
-    Refused(Refusal),
-    Closed(usize),
+    pub answer: Result<(), Refusal>,
 }
 
 const TRAILER: usize = 20;
@@ -76,80 +61,62 @@ fn trailer_of(recorder: Recorder) -> Trailer
 }
 
 // Whether the reader would accept the record, in a trace over so many pages.
+#[tactic(auto, unfolding(trace::specs::Format::record_of))]
 fn accepted(what: Record, pages: usize) -> bool
-    ensures { result ≡ not (is_end (found_for pages what)) }
+    ensures { result ≡ is_some (found_for pages what) }
 {
     match what {
-        Record::Read(page) => page < pages,
-        Record::Write(page, _) => page < pages,
+        Record::Read(page) | Record::Write(page, _) | Record::Drop(page) => page < pages,
         Record::Flush => true,
-        Record::Drop(page) => page < pages,
     }
 }
 
 // Whether so many records from byte `start` on and the trailer fit n bytes, and the distance 32 bits: as whole numbers, so that nothing wraps.
+#[tactic(auto, unfolding(crate::specs::Calls::room_for))]
 fn has_room(start: usize, records: usize, n: usize) -> bool
     requires { records ≤ 4294967296 }
     ensures { result ≡ room_for start records n }
 {
     let distance = TRAILER + 4 * records;
-    if FARTHEST < distance {
-        return false;
-    }
-    if n < distance {
-        return false;
-    }
-    start <= n - distance
+    distance <= FARTHEST && distance <= n && start <= n - distance
 }
 
 // Refusal 1 or 11 of closing into n bytes. A recorder that begins, with its notes before it and no record yet, is refused alike.
-fn close_verdict(recorder: Recorder, n: usize) -> Verdict
+#[tactic(auto, unfolding(crate::specs::Calls::close_verdict))]
+fn close_verdict(recorder: Recorder, n: usize) -> Result<(), Refusal>
     ensures { result ≡ close_verdict recorder n }
 {
     if !trace::numbers_allowed(trailer_of(recorder)) {
-        return Verdict::Refused(Refusal::OutOfLimits);
+        return Err(Refusal::OutOfLimits);
     }
     if !has_room(recorder.start, recorder.records as usize, n) {
-        return Verdict::Refused(Refusal::NoRoom);
+        return Err(Refusal::NoRoom);
     }
-    Verdict::Fine
+    Ok(())
 }
 
 // Refusal 1, 8 or 11 of one record more.
-fn add_verdict(recorder: Recorder, what: Record, n: usize) -> Verdict
+#[tactic(auto, unfolding(crate::specs::Calls::add_verdict))]
+fn add_verdict(recorder: Recorder, what: Record, n: usize) -> Result<(), Refusal>
     ensures { result ≡ add_verdict recorder what n }
 {
     if !trace::numbers_allowed(trailer_of(recorder)) {
-        return Verdict::Refused(Refusal::OutOfLimits);
+        return Err(Refusal::OutOfLimits);
     }
     let number = recorder.records as usize + 1;
     if !accepted(what, recorder.pages) {
-        return Verdict::Refused(Refusal::BadRecord(number));
+        return Err(Refusal::BadRecord(number));
     }
     if !has_room(recorder.start, number, n) {
-        return Verdict::Refused(Refusal::NoRoom);
+        return Err(Refusal::NoRoom);
     }
-    Verdict::Fine
+    Ok(())
 }
 
 // ---- the public calls
 
-// The recorder of a trace that was not begun.
-fn zeros() -> Recorder
-    ensures { result ≡ zero_recorder }
-{
-    Recorder {
-        frames: 0,
-        page_bytes: 0,
-        pages: 0,
-        read_cost: 0,
-        write_cost: 0,
-        start: 0,
-        records: 0,
-    }
-}
-
 // Begins a trace: its notes go to the front of the buffer. Refused: 1, 11; then the recorder is all zeros, which `add` and `close` refuse 1.
+#[tactic(auto, using(crate::proofs::Laws::begins), unfolding(crate::specs::Calls::begin_after))]
 pub fn begin(
     frames: usize,
     page_bytes: usize,
@@ -172,101 +139,65 @@ pub fn begin(
         start: size,
         records: 0,
     };
-    match close_verdict(recorder, buffer.len()) {
-        Verdict::Refused(why) => {
-            let none = zeros();
-            Recorded {
-                recorder: none,
-                answer: Recording::Refused(why),
-            }
-        }
-        Verdict::Fine => {
-            pages::overlay(buffer, 0, 0, notes, size);
-            Recorded {
-                recorder,
-                answer: Recording::Recorded,
-            }
-        }
+    let answer = close_verdict(recorder, buffer.len());
+    if answer.is_err() {
+        return Recorded {
+            recorder: Recorder::default(),
+            answer,
+        };
     }
+    pages::overlay(buffer, 0, 0, notes, size);
+    Recorded { recorder, answer }
 }
 
 // Adds a record behind those that are there. Refused: 1, 8 with the number that the record would have had, 11.
+#[tactic(auto, using(crate::proofs::Laws::adds), unfolding(crate::specs::Calls::add_after))]
 pub fn add(recorder: Recorder, what: Record, buffer: &mut [u8]) -> Recorded
     ensures { recorded_left result buffer.new ≡ add_after recorder what buffer.old }
 {
-    match add_verdict(recorder, what, buffer.len()) {
-        Verdict::Refused(why) => Recorded {
-            recorder,
-            answer: Recording::Refused(why),
-        },
-        Verdict::Fine => {
-            writing::put_record(
-                buffer,
-                recorder.start + 4 * (recorder.records as usize),
-                what,
-            );
-            let mut longer = recorder;
-            longer.records += 1;
-            Recorded {
-                recorder: longer,
-                answer: Recording::Recorded,
-            }
-        }
+    let answer = add_verdict(recorder, what, buffer.len());
+    if answer.is_err() {
+        return Recorded { recorder, answer };
+    }
+    let end = recorder.start + 4 * (recorder.records as usize);
+    writing::put_record(buffer, end, what);
+    let longer = Recorder {
+        records: recorder.records + 1,
+        ..recorder
+    };
+    Recorded {
+        recorder: longer,
+        answer,
     }
 }
 
-// Adds the record of a read or a write that gave this answer. A refused call has no record: the answer is then the call's refusal, and nothing changes. A call
-// that was served stays served, whatever becomes of its record. Refused: as the call was; else 1, 8, 11.
-pub fn add_served(recorder: Recorder, answer: Answer, what: Record, buffer: &mut [u8]) -> Recorded
+// Adds the record of a call that gave this answer. A refused call has no record: the answer is then the call's refusal, and nothing changes. A call that was
+// served stays served, whatever becomes of its record. Refused: as the call was; else 1, 8, 11.
+pub fn add_served<T: Drop>(
+    recorder: Recorder,
+    answer: Result<T, Refusal>,
+    what: Record,
+    buffer: &mut [u8],
+) -> Recorded
     ensures { recorded_left result buffer.new ≡ recorded_by (answer_verdict answer) what (tape recorder buffer.old) }
 {
     match answer {
-        Answer::Refused(why) => Recorded {
+        Ok(_) => add(recorder, what, buffer),
+        Err(why) => Recorded {
             recorder,
-            answer: Recording::Refused(why),
+            answer: Err(why),
         },
-        Answer::Hit => add(recorder, what, buffer),
-        Answer::Fault(_) => add(recorder, what, buffer),
     }
 }
 
-// The same of a flush.
-pub fn add_flushed(recorder: Recorder, answer: Flushing, buffer: &mut [u8]) -> Recorded
-    ensures { recorded_left result buffer.new ≡ recorded_by (flushing_verdict answer) Flush (tape recorder buffer.old) }
-{
-    match answer {
-        Flushing::Refused(why) => Recorded {
-            recorder,
-            answer: Recording::Refused(why),
-        },
-        Flushing::Wrote(_) => add(recorder, Record::Flush, buffer),
-    }
-}
-
-// And of a drop of a page.
-pub fn add_dropped(recorder: Recorder, answer: Dropping, page: usize, buffer: &mut [u8]) -> Recorded
-    ensures { recorded_left result buffer.new ≡ recorded_by (dropping_verdict answer) (Drop page) (tape recorder buffer.old) }
-{
-    match answer {
-        Dropping::Refused(why) => Recorded {
-            recorder,
-            answer: Recording::Refused(why),
-        },
-        Dropping::Dropped => add(recorder, Record::Drop(page), buffer),
-    }
-}
-
-// Closes the trace with its trailer: so many bytes of the buffer are the trace. The recorder stays as it is: a further record goes over the trailer, and the
-// trace is closed again. Refused: 1, 11.
-pub fn close(recorder: Recorder, buffer: &mut [u8]) -> Closing
+// Closes the trace with its trailer, and says how many bytes of the buffer are the trace. The recorder stays as it is: a further record goes over the trailer,
+// and the trace is closed again. Refused: 1, 11.
+#[tactic(auto, using(crate::proofs::Laws::closes), unfolding(crate::specs::Calls::close_after))]
+pub fn close(recorder: Recorder, buffer: &mut [u8]) -> Result<usize, Refusal>
     ensures { closed_left recorder result buffer.new ≡ close_after recorder buffer.old }
 {
-    match close_verdict(recorder, buffer.len()) {
-        Verdict::Refused(why) => Closing::Refused(why),
-        Verdict::Fine => {
-            let end = recorder.start + 4 * (recorder.records as usize);
-            writing::put_trailer(buffer, end, trailer_of(recorder));
-            Closing::Closed(end + TRAILER)
-        }
-    }
+    close_verdict(recorder, buffer.len())?;
+    let end = recorder.start + 4 * (recorder.records as usize);
+    writing::put_trailer(buffer, end, trailer_of(recorder));
+    Ok(end + TRAILER)
 }

@@ -4,166 +4,127 @@
 
 ghost use Rattle.std.specs.Prelude.{◌≤◌};
 
-use calls::chance::World;
-use calls::{at_most, chance};
+use calls::chance::{self, World};
+use model::Refusal;
 use record_calls::Run;
-use recorder::Closing;
-use rerun::Again;
 use std::io;
-use tell::{end, number, word};
 
 // ---- what is printed
 
 fn tell_digest(rt: &impl Print, digest: u32) -> io::Result<()> {
-    number(rt, digest::printed(digest))
-}
-
-fn tell_byte(rt: &impl Print, byte: u8) -> io::Result<()> {
-    number(rt, byte as u64)
+    print!(rt; " {}", digest::printed(digest))
 }
 
 fn tell_bytes(rt: &impl Print, bytes: &[u8]) -> io::Result<()> {
-    let mut i = 0;
-    while i < bytes.len() {
-        tell_byte(rt, bytes[i])?;
-        i += 1;
+    for byte in bytes {
+        print!(rt; " {byte}")?;
     }
     Ok(())
 }
 
 // ---- a run that is recorded
 
+// 100 calls by chance, on as much of each memory as the pool asks for.
 fn record_all(
-    run: Run,
+    run: &mut Run,
     world: World,
-    turns: usize,
     frames: &mut [u8],
     store: &mut [u8],
     out: &mut [u8],
     buffer: &mut [u8],
-) -> Run {
-    let mut now = run;
-    let mut seed = world.frames;
-    let mut rest = turns;
-    while 0 < rest {
-        rest -= 1;
+) {
+    let m = world.frame_bytes.min(frames.len());
+    let n = world.store_bytes.min(store.len());
+    let k = world.numbers.page_bytes.min(out.len());
+    let mut seed = world.numbers.frames;
+    for _ in 0..100 {
         let call = chance::random_call(world, seed);
         seed = chance::next(chance::next(seed));
-        let after = record_calls::make(now, call, frames, store, out, buffer);
-        now = after;
+        run.make(
+            call,
+            &mut frames[..m],
+            &mut store[..n],
+            &mut out[..k],
+            buffer,
+        );
     }
-    now
-}
-
-// 100 calls, on as much of each memory as the pool asks for.
-fn record_sized(
-    run: Run,
-    world: World,
-    frames: &mut [u8],
-    store: &mut [u8],
-    out: &mut [u8],
-    buffer: &mut [u8],
-) -> Run {
-    let m = at_most(world.frame_bytes, frames.len());
-    let n = at_most(world.store_bytes, store.len());
-    let k = at_most(world.page_bytes, out.len());
-    record_all(
-        run,
-        world,
-        100,
-        &mut frames[0..m],
-        &mut store[0..n],
-        &mut out[0..k],
-        buffer,
-    )
 }
 
 // ---- one recorded run
 
-fn tell_again(rt: &impl Print, again: Again) -> io::Result<()> {
+fn tell_again(rt: &impl Print, again: Result<u32, Refusal>) -> io::Result<()> {
     match again {
-        Again::Refused(why) => tell::also_refused(rt, why),
-        Again::Shown(shown) => {
-            word(rt, b" again")?;
+        Err(why) => print!(rt; " {why}"),
+        Ok(shown) => {
+            print!(rt; " again")?;
             tell_digest(rt, shown)
         }
     }
 }
 
 // What closing gave, and what comes of the trace when it is read back.
-fn tell_closing(rt: &impl Print, answer: Closing, world: World, buffer: &[u8]) -> io::Result<()> {
-    match answer {
-        Closing::Refused(why) => tell::also_refused(rt, why),
-        Closing::Closed(bytes) => {
-            word(rt, b" closed")?;
-            number(rt, bytes as u64)?;
-            let n = at_most(bytes, buffer.len());
-            tell_again(rt, rerun::run_again(&buffer[0..n], world))
+fn tell_closed(
+    rt: &impl Print,
+    closed: Result<usize, Refusal>,
+    world: World,
+    buffer: &[u8],
+) -> io::Result<()> {
+    match closed {
+        Err(why) => print!(rt; " {why}"),
+        Ok(bytes) => {
+            print!(rt; " closed {bytes}")?;
+            let n = bytes.min(buffer.len());
+            tell_again(rt, rerun::run_again(&buffer[..n], world))
         }
     }
 }
 
 fn tell_run(rt: &impl Print, run: Run, world: World, buffer: &mut [u8]) -> io::Result<()> {
-    let recorder = run.recorder;
-    let answer = recorder::close(recorder, buffer);
-    word(rt, b" records")?;
-    number(rt, recorder.records as u64)?;
-    word(rt, b" buffer")?;
+    let closed = recorder::close(run.recorder, buffer);
+    print!(rt; " records {} buffer", run.recorder.records)?;
     tell_digest(rt, digest::absorb_bytes(digest::FULL, buffer))?;
-    word(rt, b" shown")?;
+    print!(rt; " shown")?;
     tell_digest(rt, run.shown)?;
-    tell_closing(rt, answer, world, buffer)?;
-    end(rt)
+    tell_closed(rt, closed, world, buffer)?;
+    println!(rt)
 }
 
 // Calls by chance on a pool of so many frames, recorded from opening in a buffer that is lent whole.
 fn record_run(rt: &impl Print, frames: usize, buffer: &mut [u8]) -> io::Result<()>
     requires { frames ≤ 8 }
 {
-    let world = chance::world_of(frames);
-    let costs = chance::costs_of(frames);
-    let mut frame_memory = [0u8; 256];
-    let mut store = [0u8; 512];
-    let mut out = [0u8; 32];
-    chance::fill(&mut store);
-    let opened = casa::open(
-        world.frames,
-        world.page_bytes,
-        world.pages,
-        costs.read,
-        costs.write,
-    );
-    let pool = opened.pool;
-    let begun = record_casa::begin(pool, b"by chance\n", buffer);
-    let recorder = begun.recorder;
-    let run = Run {
-        pool,
-        recorder,
+    let world = World::of(frames);
+    let opened = casa::open(world.numbers);
+    let begun = record_casa::begin(opened.pool, b"by chance\n", buffer);
+    let mut run = Run {
+        pool: opened.pool,
+        recorder: begun.recorder,
         shown: digest::FULL,
     };
-    let done = record_sized(run, world, &mut frame_memory, &mut store, &mut out, buffer);
-    word(rt, b"run")?;
-    number(rt, frames as u64)?;
-    tell_run(rt, done, world, buffer)
+    let mut memory = [0; 256];
+    let mut store = [0; 512];
+    let mut out = [0; 32];
+    chance::fill(&mut store);
+    record_all(&mut run, world, &mut memory, &mut store, &mut out, buffer);
+    print!(rt; "run {frames}")?;
+    tell_run(rt, run, world, buffer)
 }
 
 fn record_runs(rt: &impl Print) -> io::Result<()> {
-    let mut frames = 1;
-    while frames < 9 {
-        let mut buffer = [170u8; 512];
+    for frames in 1..=8 {
+        let mut buffer = [170; 512];
         record_run(rt, frames, &mut buffer)?;
-        frames += 1;
     }
     Ok(())
 }
 
 // Only the first ten of the records find room, and two bytes are left over: the whole buffer is told.
 fn record_little(rt: &impl Print) -> io::Result<()> {
-    let mut buffer = [170u8; 72];
+    let mut buffer = [170; 72];
     record_run(rt, 2, &mut buffer)?;
-    word(rt, b"bytes")?;
+    print!(rt; "bytes")?;
     tell_bytes(rt, &buffer)?;
-    end(rt)
+    println!(rt)
 }
 
 fn main(rt: HostRuntime) -> io::Result<()> {

@@ -5,14 +5,15 @@
 ghost use Rattle.std.specs.Prelude.{◌≡◌, ◌≤◌, IfOk, length};
 ghost use Rattle.casa.specs.Calls.{open_left, open_after};
 ghost use Rattle.trace.specs.Format.{numbers_in, recorded_on};
+ghost use Rattle.run_casa.specs.declared.TheConstants.{MOST_FRAMES, MOST_STORE, MOST_PAGE};
 
-use casa::{Opened, Served};
-use model::{Dropping, Flushing, Opening, Refusal, Victim};
+use casa::Opened;
+use model::{Access, Answer, Refusal, Victim};
 use pool::Pool;
-use std::io;
 use std::io::Read;
-use tell::{number, word};
-use trace::{Checked, Next, Record, Trailer, reader};
+use std::{fmt, io};
+use tell::Told;
+use trace::{Record, Trailer, reader};
 
 // A longer file is refused 9; larger memory is refused 10.
 const LONGEST: usize = 16384;
@@ -23,315 +24,189 @@ const MOST_STORE: usize = 32768;
 
 const MOST_PAGE: usize = 4096;
 
-// ---- a line
+// ---- what is printed
 
-// The record that refusal 8 names.
-fn tell_record(rt: &impl Print, why: Refusal) -> io::Result<()> {
+// A refusal is a line of its own; 8 names its record.
+fn tell_refused(rt: &impl Print, why: Refusal) -> io::Result<()> {
     match why {
-        Refusal::BadRecord(record) => {
-            word(rt, b" at")?;
-            number(rt, record as u64)
-        }
-        _ => Ok(()),
+        Refusal::BadRecord(record) => println!(rt; "{why} at {record}"),
+        _ => println!(rt; "{why}"),
     }
 }
 
-// A refusal is a line of its own; 8 names its record.
-fn refused(rt: &impl Print, why: Refusal) -> io::Result<()> {
-    tell::refused(rt, why)?;
-    tell_record(rt, why)?;
-    tell::end(rt)
-}
+// Result, victim and pages written back of a read or a write. Never says 'refused': the record names a page of the pool, memory and output have its sizes, and
+// a trace has far fewer records than calls are served.
+#[derive(Clone, Copy)]
+struct Found(Answer);
 
-// Victim and pages written back.
-fn tell_victim(rt: &impl Print, victim: Victim) -> io::Result<()> {
-    match victim {
-        Victim::None => word(rt, b" - 0"),
-        Victim::Clean(page) => {
-            number(rt, page as u64)?;
-            word(rt, b" 0")
-        }
-        Victim::Dirty(page) => {
-            number(rt, page as u64)?;
-            word(rt, b" 1")
+impl fmt::Display for Found {
+    fn fmt<W: fmt::Write>(&self, f: &mut fmt::Formatter<W>) -> fmt::Result {
+        match self.0 {
+            Ok(Access::Hit) => f.write_str("hit - 0"),
+            Ok(Access::Fault(None)) => f.write_str("fault - 0"),
+            Ok(Access::Fault(Some(Victim::Clean(page)))) => write!(f, "fault {page} 0"),
+            Ok(Access::Fault(Some(Victim::Dirty(page)))) => write!(f, "fault {page} 1"),
+            Err(why) => write!(f, "{why} - 0"),
         }
     }
 }
 
 // The lengths of the lists, and the target.
-fn tell_pool(rt: &impl Print, pool: Pool) -> io::Result<()> {
-    number(rt, pool.clean_len as u64)?;
-    number(rt, pool.dirty_len as u64)?;
-    number(rt, pool.target)
-}
+#[derive(Clone, Copy)]
+struct Lists(Pool);
 
-// The line of a read or a write: k-th record, its letter and page, what was served, and byte 0 of the page. Never says 'refused': the record names a page
-// of the pool, memory and output have its sizes, and a trace has far fewer records than calls are served.
-fn tell_request(
-    rt: &impl Print,
-    k: usize,
-    letter: &[u8],
-    page: usize,
-    served: Served,
-    byte: u8,
-) -> io::Result<Pool> {
-    tell::digits(rt, k as u64)?;
-    word(rt, letter)?;
-    number(rt, page as u64)?;
-    let answer = served.answer;
-    let pool = served.pool;
-    tell::result(rt, answer)?;
-    tell_victim(rt, tell::victim_of(answer))?;
-    tell_pool(rt, pool)?;
-    number(rt, byte as u64)?;
-    tell::end(rt)?;
-    Ok(pool)
-}
-
-// Never says 'refused', for the reasons that `tell_request` gives.
-fn tell_flush(rt: &impl Print, answer: Flushing) -> io::Result<()> {
-    match answer {
-        Flushing::Refused(why) => tell::also_refused(rt, why),
-        Flushing::Wrote(pages) => number(rt, pages as u64),
+impl fmt::Display for Lists {
+    fn fmt<W: fmt::Write>(&self, f: &mut fmt::Formatter<W>) -> fmt::Result {
+        let pool = self.0;
+        write!(
+            f,
+            "{} {} {}",
+            pool.lists.clean.len, pool.lists.dirty.len, pool.target
+        )
     }
 }
 
-// Result, victim and pages written of a drop. Never says 'refused', for the same reasons.
-fn tell_drop(rt: &impl Print, answer: Dropping) -> io::Result<()> {
-    match answer {
-        Dropping::Refused(why) => tell::also_refused(rt, why),
-        Dropping::Dropped => word(rt, b" - - 1"),
+// ---- a record
+
+// A pool, and what is lent to it.
+#[derive(Drop)]
+struct PageBuffer<'a> {
+    pool: Pool,
+    frames: &'a mut [u8],
+    store: &'a mut [u8],
+    out: &'a mut [u8],
+}
+
+impl PageBuffer<'_> {
+    // Serves the k-th record, and tells it in a line. A flush and a drop never say 'refused' either; of a page that was cut byte 0 is 0.
+    fn serve(&mut self, rt: &impl Print, k: usize, record: Record) -> io::Result<()> {
+        let frames = &mut *self.frames;
+        let store = &mut *self.store;
+        match record {
+            Record::Read(page) => {
+                let read = casa::read_page(self.pool, page, frames, store, self.out);
+                self.pool = read.pool;
+                // Never without a byte: a page has at least 16.
+                let byte = self.out.first().copied().unwrap_or(0);
+                self.tell_request(rt, k, 'R', page, read.answer, byte)
+            }
+            Record::Write(page, byte) => {
+                let wrote = casa::write_page(self.pool, page, 0, &[byte], frames, store);
+                self.pool = wrote.pool;
+                self.tell_request(rt, k, 'W', page, wrote.answer, byte)
+            }
+            Record::Flush => {
+                let flushed = casa::flush(self.pool, frames, store);
+                self.pool = flushed.pool;
+                let answer = flushed.answer;
+                println!(rt; "{k} F - - - {} {} -", Told(answer), Lists(self.pool))
+            }
+            Record::Drop(page) => {
+                let dropped = casa::drop_page(self.pool, page, frames, store);
+                self.pool = dropped.pool;
+                let answer = dropped.answer.map(|()| "- - 1");
+                println!(rt; "{k} D {page} {} {} 0", Told(answer), Lists(self.pool))
+            }
+        }
     }
-}
 
-// ---- one record
-
-// Byte 0 of a page. Never without one: a page has at least 16 bytes.
-fn first_byte(page: &[u8]) -> u8 {
-    if page.len() == 0 {
-        return 0;
+    // The line of a read or a write, which ends in byte 0 of its page.
+    fn tell_request(
+        &self,
+        rt: &impl Print,
+        k: usize,
+        letter: char,
+        page: usize,
+        answer: Answer,
+        byte: u8,
+    ) -> io::Result<()> {
+        println!(rt;
+            "{k} {letter} {page} {} {} {byte}",
+            Found(answer),
+            Lists(self.pool)
+        )
     }
-    page[0]
-}
 
-fn read(
-    rt: &impl Print,
-    k: usize,
-    page: usize,
-    pool: Pool,
-    frames: &mut [u8],
-    store: &mut [u8],
-    out: &mut [u8],
-) -> io::Result<Pool> {
-    let served = casa::read_page(pool, page, frames, store, out);
-    tell_request(rt, k, b" R", page, served, first_byte(out))
-}
-
-fn write(
-    rt: &impl Print,
-    k: usize,
-    page: usize,
-    value: u8,
-    pool: Pool,
-    frames: &mut [u8],
-    store: &mut [u8],
-) -> io::Result<Pool> {
-    let bytes = [value];
-    let served = casa::write_page(pool, page, 0, &bytes, frames, store);
-    tell_request(rt, k, b" W", page, served, value)
-}
-
-fn flush(
-    rt: &impl Print,
-    k: usize,
-    pool: Pool,
-    frames: &[u8],
-    store: &mut [u8],
-) -> io::Result<Pool> {
-    let flushed = casa::flush(pool, frames, store);
-    let answer = flushed.answer;
-    let next = flushed.pool;
-    tell::digits(rt, k as u64)?;
-    word(rt, b" F - - -")?;
-    tell_flush(rt, answer)?;
-    tell_pool(rt, next)?;
-    word(rt, b" -\n")?;
-    Ok(next)
-}
-
-// Byte 0 of a page that was cut is 0.
-fn drop(
-    rt: &impl Print,
-    k: usize,
-    page: usize,
-    pool: Pool,
-    frames: &[u8],
-    store: &mut [u8],
-) -> io::Result<Pool> {
-    let dropped = casa::drop_page(pool, page, frames, store);
-    let answer = dropped.answer;
-    let next = dropped.pool;
-    tell::digits(rt, k as u64)?;
-    word(rt, b" D")?;
-    number(rt, page as u64)?;
-    tell_drop(rt, answer)?;
-    tell_pool(rt, next)?;
-    word(rt, b" 0\n")?;
-    Ok(next)
-}
-
-// Never: the loop ends with the last record, and `trace::check` has read them all.
-fn missing(rt: &impl Print, k: usize, pool: Pool) -> io::Result<Pool> {
-    refused(rt, Refusal::BadRecord(k))?;
-    Ok(pool)
-}
-
-fn serve(
-    rt: &impl Print,
-    k: usize,
-    next: Next,
-    pool: Pool,
-    frames: &mut [u8],
-    store: &mut [u8],
-    out: &mut [u8],
-) -> io::Result<Pool> {
-    match next {
-        Next::End => missing(rt, k, pool),
-        Next::Record(record) => match record {
-            Record::Read(page) => read(rt, k, page, pool, frames, store, out),
-            Record::Write(page, value) => write(rt, k, page, value, pool, frames, store),
-            Record::Flush => flush(rt, k, pool, frames, store),
-            Record::Drop(page) => drop(rt, k, page, pool, frames, store),
-        },
+    fn tell_end(&self, rt: &impl Print) -> io::Result<()> {
+        let pool = self.pool;
+        println!(rt;
+            "end {} {} {}",
+            pool.reads.0,
+            pool.writes.0,
+            Told(casa::total(pool))
+        )
     }
-}
-
-fn serve_all(
-    rt: &impl Print,
-    bytes: &[u8],
-    records: usize,
-    pool: Pool,
-    frames: &mut [u8],
-    store: &mut [u8],
-    out: &mut [u8],
-) -> io::Result<Pool> {
-    let mut now = pool;
-    let mut place = 0;
-    while place < records {
-        let next = reader::nth(bytes, place);
-        place += 1;
-        let after = serve(rt, place, next, now, frames, store, out)?;
-        now = after;
-    }
-    Ok(now)
 }
 
 // ---- the whole
 
-fn tell_end(rt: &impl Print, pool: Pool) -> io::Result<()> {
-    word(rt, b"end")?;
-    number(rt, pool.reads.0)?;
-    number(rt, pool.writes.0)?;
-    tell::total(rt, casa::total(pool))?;
-    tell::end(rt)
+// The trailer of a trace that is fine, and how many bytes its pool takes, for which there is room.
+#[derive(Clone, Copy)]
+struct Fitting {
+    trailer: Trailer,
+    frame_bytes: usize,
+    store_bytes: usize,
+    page_bytes: usize,
+    ghost in_room: { (frame_bytes ≤ MOST_FRAMES) × (store_bytes ≤ MOST_STORE) × (page_bytes ≤ MOST_PAGE) },
+}
+
+// Refused: 9; 7, 1, 8; 10.
+fn judge(bytes: &[u8]) -> Result<Fitting, Refusal> {
+    if LONGEST < bytes.len() {
+        return Err(Refusal::LongFile);
+    }
+    let trailer = trace::check(bytes)?;
+    let page_bytes = trailer.page_bytes;
+    // Never: `trace::check` has tested the limits. They are tested again so that the sizes are known to fit.
+    if 64 < trailer.frames || MOST_PAGE < page_bytes || 65536 < trailer.pages {
+        return Err(Refusal::OutOfLimits);
+    }
+    let frame_bytes = pages::area(trailer.frames, page_bytes);
+    let store_bytes = pages::area(trailer.pages, page_bytes);
+    if MOST_FRAMES < frame_bytes || MOST_STORE < store_bytes {
+        return Err(Refusal::LargePool);
+    }
+    Ok(Fitting {
+        trailer,
+        frame_bytes,
+        store_bytes,
+        page_bytes,
+    })
 }
 
 // A pool with the numbers on which the trace was recorded. Never refused where `trace::check` finds the trace fine (`trace-opens`).
 fn open_recorded(trailer: Trailer) -> Opened
     ensures { open_left result ≡ open_after (recorded_on (numbers_in trailer)) }
 {
-    let drive = trace::recorded_on(trailer);
-    casa::open(
-        trailer.frames,
-        trailer.page_bytes,
-        trailer.pages,
-        drive.read_cost,
-        drive.write_cost,
-    )
+    casa::open(trace::recorded_on(trailer))
 }
 
-fn tell_opening(rt: &impl Print, answer: Opening) -> io::Result<()> {
-    match answer {
-        Opening::Refused(why) => refused(rt, why),
-        Opening::Opened => Ok(()),
+fn run(rt: &impl Print, bytes: &[u8], fitting: Fitting) -> io::Result<()> {
+    let mut frames = [0; MOST_FRAMES];
+    let mut store = [0; MOST_STORE];
+    let mut out = [0; MOST_PAGE];
+    let opened = open_recorded(fitting.trailer);
+    if let Err(why) = opened.answer {
+        tell_refused(rt, why)?;
     }
+    println!(rt; "request op page result victim writes clean dirty target byte")?;
+    let mut buffer = PageBuffer {
+        pool: opened.pool,
+        frames: &mut frames[..fitting.frame_bytes],
+        store: &mut store[..fitting.store_bytes],
+        out: &mut out[..fitting.page_bytes],
+    };
+    for place in 0..fitting.trailer.records {
+        match reader::nth(bytes, place) {
+            Some(record) => buffer.serve(rt, place + 1, record)?,
+            // Never: `trace::check` has read them all.
+            None => tell_refused(rt, Refusal::BadRecord(place + 1))?,
+        }
+    }
+    buffer.tell_end(rt)
 }
 
-fn run(
-    rt: &impl Print,
-    bytes: &[u8],
-    trailer: Trailer,
-    frames: &mut [u8],
-    store: &mut [u8],
-    out: &mut [u8],
-) -> io::Result<()> {
-    let opened = open_recorded(trailer);
-    let answer = opened.answer;
-    let pool = opened.pool;
-    tell_opening(rt, answer)?;
-    word(
-        rt,
-        b"request op page result victim writes clean dirty target byte\n",
-    )?;
-    let last = serve_all(rt, bytes, trailer.records, pool, frames, store, out)?;
-    tell_end(rt, last)
-}
-
-// Refusal 10, or the run on a store of zero bytes.
-fn run_sized(
-    rt: &impl Print,
-    bytes: &[u8],
-    trailer: Trailer,
-    frame_bytes: usize,
-    store_bytes: usize,
-    page_bytes: usize,
-) -> io::Result<()>
-    requires { page_bytes ≤ 4096 }
-{
-    if MOST_FRAMES < frame_bytes {
-        return refused(rt, Refusal::LargePool);
-    }
-    if MOST_STORE < store_bytes {
-        return refused(rt, Refusal::LargePool);
-    }
-    let mut frames = [0u8; MOST_FRAMES];
-    let mut store = [0u8; MOST_STORE];
-    let mut out = [0u8; MOST_PAGE];
-    run(
-        rt,
-        bytes,
-        trailer,
-        &mut frames[0..frame_bytes],
-        &mut store[0..store_bytes],
-        &mut out[0..page_bytes],
-    )
-}
-
-// Never refused: `trace::check` has tested the limits. They are tested again so that the sizes are known to fit.
-fn run_fine(rt: &impl Print, bytes: &[u8], trailer: Trailer) -> io::Result<()> {
-    let b = trailer.frames;
-    let p = trailer.page_bytes;
-    let n = trailer.pages;
-    if 64 < b {
-        return refused(rt, Refusal::OutOfLimits);
-    }
-    if MOST_PAGE < p {
-        return refused(rt, Refusal::OutOfLimits);
-    }
-    if 65536 < n {
-        return refused(rt, Refusal::OutOfLimits);
-    }
-    run_sized(rt, bytes, trailer, pages::area(b, p), pages::area(n, p), p)
-}
-
-fn run_trace(rt: &impl Print, bytes: &[u8]) -> io::Result<()> {
-    match trace::check(bytes) {
-        Checked::Refused(why) => refused(rt, why),
-        Checked::Fine(trailer) => run_fine(rt, bytes, trailer),
-    }
-}
-
-// Reads on after a short read, until the buffer is full or the input ends: how many bytes came.
+// Reads on after a short read, until the buffer is full or the input ends: how many bytes came. A `while`: how far a read gets is the input's choice.
 fn read_full(rt: &impl Input, buffer: &mut [u8]) -> io::Result<usize>
     ensures bound { IfOk result (λ n. n ≤ length buffer.old) }
 {
@@ -348,10 +223,11 @@ fn read_full(rt: &impl Input, buffer: &mut [u8]) -> io::Result<usize>
 }
 
 fn main(rt: HostRuntime) -> io::Result<()> {
-    let mut buffer = [0u8; 16385];
-    let n = read_full(&rt, &mut buffer)?;
-    if LONGEST < n {
-        return refused(&rt, Refusal::LongFile);
+    let mut input = [0; LONGEST + 1];
+    let n = read_full(&rt, &mut input)?;
+    let bytes = &input[..n];
+    match judge(bytes) {
+        Ok(fitting) => run(&rt, bytes, fitting),
+        Err(why) => tell_refused(&rt, why),
     }
-    run_trace(&rt, &buffer[0..n])
 }

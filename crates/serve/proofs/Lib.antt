@@ -1,3 +1,3 @@
--- The laws of `serve`: Verdicts of which row refuses, Brought of the bytes of a request. Assumes nothing.
+-- The laws of `serve`: Verdicts of which row refuses, Victims of the bytes of a request. Assumes nothing.
 pub mod Verdicts
-pub mod Brought
+pub mod Victims

@@ -4,51 +4,50 @@
 ghost use Rattle.std.specs.Prelude.{◌≡◌, true, ◌≤◌, length};
 ghost use Rattle.order.specs.Places.{places};
 ghost use Rattle.pages.specs.Pages.{InPages};
-ghost use Rattle.model.specs.Numbers.{numbers};
+ghost use Rattle.model.specs.Numbers.{numbers_held};
 ghost use Rattle.model.specs.Bytes.{memory, brought};
 ghost use Rattle.model.specs.Refusals.{request_verdict, stretch_fits};
 ghost use Rattle.serve.specs.Serve.{AnswerIn};
 
-use model::{Answer, MOST_SERVED, Refusal, Verdict, Victim};
+use model::{Access, Answer, MOST_SERVED, Numbers, Refusal, Victim};
 
 // ---- refusals
 
 // Of a read or a write, and by its rows of a flush and a drop: whether the pool is sound, whether the kept numbers fit, the pool's numbers and served calls,
 // the `m` bytes of frame memory and `n` of store that are lent, the page, and whether the caller's own bytes fit. The costs refuse nothing.
+#[tactic(auto, unfolding(model::specs::Refusals::request_verdict))]
 pub fn request_verdict(
     sound: bool,
     timed: bool,
-    frames: usize,
-    page_bytes: usize,
-    pages: usize,
+    numbers: Numbers,
     served: u64,
     m: usize,
     n: usize,
     page: usize,
     fit: bool,
-) -> Verdict
-    requires { sound ≡ true → (frames ≤ places) × (pages ≤ 65536) × (page_bytes ≤ 4096) }
-    ensures { result ≡ request_verdict sound timed (numbers frames page_bytes pages 0 0) served m n page fit }
+) -> Result<(), Refusal>
+    requires { sound ≡ true → (numbers.frames ≤ places) × (numbers.pages ≤ 65536) × (numbers.page_bytes ≤ 4096) }
+    ensures { result ≡ request_verdict sound timed (numbers_held numbers) served m n page fit }
 {
     if !sound {
-        return Verdict::Refused(Refusal::BrokenPool);
+        return Err(Refusal::BrokenPool);
     }
     if !timed {
-        return Verdict::Refused(Refusal::BrokenWindows);
+        return Err(Refusal::BrokenWindows);
     }
-    if !pages::sizes_match(m, n, frames, pages, page_bytes) {
-        return Verdict::Refused(Refusal::WrongMemory);
+    if !pages::sizes_match(m, n, numbers.frames, numbers.pages, numbers.page_bytes) {
+        return Err(Refusal::WrongMemory);
     }
-    if pages <= page {
-        return Verdict::Refused(Refusal::NoSuchPage);
+    if numbers.pages <= page {
+        return Err(Refusal::NoSuchPage);
     }
     if !fit {
-        return Verdict::Refused(Refusal::WrongBytes);
+        return Err(Refusal::WrongBytes);
     }
     if MOST_SERVED <= served {
-        return Verdict::Refused(Refusal::Spent);
+        return Err(Refusal::Spent);
     }
-    Verdict::Fine
+    Ok(())
 }
 
 // Whether a stretch has bytes and ends within the page: start + length as whole numbers, without a sum that could wrap.
@@ -81,18 +80,10 @@ pub fn bring(
     ensures { memory frames.new store.new ≡ brought size frame page answer (memory frames.old store.old) }
 {
     match answer {
-        Answer::Refused(_) => {}
-        Answer::Hit => {}
-        Answer::Fault(victim) => match victim {
-            Victim::None => {
-                pages::fetch(frames, frame, store, page, size);
-            }
-            Victim::Clean(_) => {
-                pages::fetch(frames, frame, store, page, size);
-            }
-            Victim::Dirty(old) => {
-                dirty::replace(frames, frame, store, old, page, size);
-            }
-        },
+        Ok(Access::Fault(Some(Victim::Dirty(old)))) => {
+            dirty::replace(frames, frame, store, old, page, size);
+        }
+        Ok(Access::Fault(_)) => pages::fetch(frames, frame, store, page, size),
+        _ => {}
     }
 }

@@ -4,11 +4,11 @@
 
 ghost use Rattle.std.specs.Prelude.{◌≤◌};
 
-use calls::chance::World;
-use calls::{DROP, FAULT, FLUSH, HIT, KINDS, Left, TOTAL, chance};
+use calls::chance::{self, World};
+use calls::{Counts, Left, Said};
+use model::{Access, Numbers, Refusal, Victim};
 use pool::Pool;
 use std::io;
-use tell::{number, word};
 use turns::{Plan, Turn};
 
 // ---- what came out
@@ -17,64 +17,63 @@ use turns::{Plan, Turn};
 #[derive(Clone, Copy)]
 struct Tally {
     digest: u32,
-    counts: [u64; KINDS],
+    counts: Counts,
 }
 
-fn fresh_tally() -> Tally {
-    let counts = [0u64; KINDS];
-    Tally {
-        digest: digest::FULL,
-        counts,
+impl Tally {
+    fn new() -> Tally {
+        Tally {
+            digest: digest::FULL,
+            counts: Counts::new(),
+        }
+    }
+
+    // The answer of a call, its pool and every byte of memory are absorbed.
+    fn absorb(&mut self, left: Left, frames: &[u8], store: &[u8], out: &[u8]) {
+        let with_pool = left.absorbed(self.digest);
+        let with_frames = digest::absorb_bytes(with_pool, frames);
+        let with_store = digest::absorb_bytes(with_frames, store);
+        self.digest = digest::absorb_bytes(with_store, out);
+        self.counts.add(left.said);
     }
 }
 
-// The answer of a call, its pool and every byte of memory are absorbed.
-fn absorb_left(tally: Tally, left: Left, frames: &[u8], store: &[u8], out: &[u8]) -> Tally {
-    let said = left.said;
-    let with_pool = calls::absorb(tally.digest, left);
-    let with_frames = digest::absorb_bytes(with_pool, frames);
-    let with_store = digest::absorb_bytes(with_frames, store);
-    let digest = digest::absorb_bytes(with_store, out);
-    let before = tally.counts;
-    let counts = calls::one_more(before, said.kind);
-    Tally { digest, counts }
-}
-
 fn tell_digest(rt: &impl Print, digest: u32) -> io::Result<()> {
-    number(rt, digest::printed(digest))?;
-    tell::end(rt)
+    println!(rt; " {}", digest::printed(digest))
 }
 
-// How often each kind of answer came, from one kind to before another.
-fn tell_kinds(
-    rt: &impl Print,
-    what: &[u8],
-    counts: &[u64; KINDS],
-    from: usize,
-    end: usize,
-) -> io::Result<()>
-    requires { end ≤ 27 }
-{
-    word(rt, what)?;
-    let mut kind = from;
-    while kind < end {
-        number(rt, counts[kind])?;
-        kind += 1;
+// How often each of these kinds of answers came.
+fn tell_kinds(rt: &impl Print, what: &str, counts: &Counts, kinds: &[Said]) -> io::Result<()> {
+    print!(rt; " {what}")?;
+    for said in kinds {
+        print!(rt; " {}", counts.of(*said))?;
     }
     Ok(())
 }
 
 // Faults without a victim, with a clean one and with a dirty one; refusals 2 to 6, and 13 for kept numbers of windows.
-fn tell_counts(rt: &impl Print, tally: Tally) -> io::Result<()> {
-    let counts = tally.counts;
-    tell_kinds(rt, b" hits", &counts, HIT, FAULT)?;
-    tell_kinds(rt, b" faults", &counts, FAULT, FLUSH)?;
-    tell_kinds(rt, b" flushes", &counts, FLUSH, TOTAL)?;
-    tell_kinds(rt, b" totals", &counts, TOTAL, DROP)?;
-    tell_kinds(rt, b" drops", &counts, DROP, KINDS)?;
-    tell_kinds(rt, b" refused", &counts, 2, 7)?;
-    tell_kinds(rt, b" windows", &counts, 13, 14)?;
-    tell::end(rt)
+fn tell_counts(rt: &impl Print, counts: &Counts) -> io::Result<()> {
+    let faults = [
+        Said::Found(Access::Fault(None)),
+        Said::Found(Access::Fault(Some(Victim::Clean(0)))),
+        Said::Found(Access::Fault(Some(Victim::Dirty(0)))),
+    ];
+    let refused = [
+        Said::Refused(Refusal::BrokenPool),
+        Said::Refused(Refusal::WrongMemory),
+        Said::Refused(Refusal::NoSuchPage),
+        Said::Refused(Refusal::WrongBytes),
+        Said::Refused(Refusal::Spent),
+    ];
+    let windows = [Said::Refused(Refusal::BrokenWindows)];
+    tell_kinds(rt, "hits", counts, &[Said::Found(Access::Hit)])?;
+    tell_kinds(rt, "faults", counts, &faults)?;
+    tell_kinds(rt, "flushes", counts, &[Said::Wrote(0)])?;
+    tell_kinds(rt, "totals", counts, &[Said::Total(0)])?;
+    tell_kinds(rt, "drops", counts, &[Said::Dropped])?;
+    tell_kinds(rt, "refused", counts, &refused)?;
+    tell_kinds(rt, "windows", counts, &windows)?;
+    println!(rt)
 }
 
 // ---- a run
@@ -87,145 +86,111 @@ struct Run {
     seed: usize,
 }
 
-fn fresh_run(world: World, tally: Tally, r: u64, w: u64) -> Run {
-    let opened = casa::open(world.frames, world.page_bytes, world.pages, r, w);
-    let pool = opened.pool;
-    Run {
-        tally,
-        pool,
-        seed: world.frames,
+impl Run {
+    fn new(tally: Tally, world: World) -> Run {
+        Run {
+            tally,
+            pool: casa::open(world.numbers).pool,
+            seed: world.numbers.frames,
+        }
+    }
+
+    // The call of a turn is made, and what it leaves counts as the turn says.
+    fn take(&mut self, turn: Turn, frames: &mut [u8], store: &mut [u8], out: &mut [u8]) {
+        let left = calls::make(turn.pool, turn.call, frames, store, out);
+        if turn.told {
+            self.tally.absorb(left, frames, store, out);
+        }
+        if turn.stays {
+            self.pool = left.pool;
+        }
+        self.seed = turn.seed;
+    }
+
+    // All turns, by how many are left.
+    fn take_all(
+        mut self,
+        plan: Plan,
+        world: World,
+        turns: usize,
+        frames: &mut [u8],
+        store: &mut [u8],
+        out: &mut [u8],
+    ) -> Tally {
+        for rest in (1..=turns).rev() {
+            let turn = turns::turn_of(plan, world, self.pool, self.seed, rest);
+            self.take(turn, frames, store, out);
+        }
+        self.tally
     }
 }
 
-fn pool_after(turn: Turn, left: Left, before: Pool) -> Pool {
-    if turn.stays {
-        return left.pool;
-    }
-    before
-}
+// ---- every short sequence on a small pool
 
-fn tally_after(
-    turn: Turn,
-    tally: Tally,
-    left: Left,
-    frames: &[u8],
-    store: &[u8],
-    out: &[u8],
-) -> Tally {
-    if turn.told {
-        return absorb_left(tally, left, frames, store, out);
-    }
-    tally
-}
-
-// The call of a turn is made, and what it leaves counts as the turn says.
-fn take(run: Run, turn: Turn, frames: &mut [u8], store: &mut [u8], out: &mut [u8]) -> Run {
-    let left = calls::make(turn.pool, turn.call, frames, store, out);
-    let tally = tally_after(turn, run.tally, left, frames, store, out);
-    let pool = pool_after(turn, left, run.pool);
-    Run {
-        tally,
-        pool,
-        seed: turn.seed,
-    }
-}
-
-fn take_all(
-    run: Run,
-    plan: Plan,
-    world: World,
-    turns: usize,
-    frames: &mut [u8],
-    store: &mut [u8],
-    out: &mut [u8],
-) -> Tally {
-    let mut now = run;
-    let mut rest = turns;
-    while 0 < rest {
-        let turn = turns::turn_of(plan, world, now.pool, now.seed, rest);
-        let after = take(now, turn, frames, store, out);
-        now = after;
-        rest -= 1;
-    }
-    now.tally
-}
-
-// ---- every short sequence on a small pool: 2 frames, 3 pages of 16 bytes
-
-fn sequence(tally: Tally, plan: Plan, length: usize, r: u64, w: u64) -> Tally {
-    let mut frames = [0xEEu8; 32];
-    let mut store = [0u8; 48];
-    let mut out = [0u8; 16];
-    chance::fill(&mut store);
-    let world = World {
-        frames: 2,
-        page_bytes: 16,
-        pages: 3,
+fn small_world(read_cost: u64, write_cost: u64) -> World {
+    World {
+        numbers: Numbers {
+            frames: 2,
+            page_bytes: 16,
+            pages: 3,
+            read_cost,
+            write_cost,
+        },
         frame_bytes: 32,
         store_bytes: 48,
-    };
-    let run = fresh_run(world, tally, r, w);
-    take_all(run, plan, world, length, &mut frames, &mut store, &mut out)
+    }
+}
+
+fn sequence(tally: Tally, plan: Plan, world: World, length: usize) -> Tally {
+    let mut frames = [0xEE; 32];
+    let mut store = [0; 48];
+    let mut out = [0; 16];
+    chance::fill(&mut store);
+    let run = Run::new(tally, world);
+    run.take_all(plan, world, length, &mut frames, &mut store, &mut out)
 }
 
 // Every sequence of one length over so many letters, in order.
-fn sequences(letters: usize, length: usize, count: usize, r: u64, w: u64) -> Tally {
-    let mut tally = fresh_tally();
-    let mut n = 0;
-    while n < count {
-        let after = sequence(tally, Plan::Letters(letters, n, length), length, r, w);
-        tally = after;
-        n += 1;
+fn sequences(letters: usize, length: usize, count: usize, world: World) -> Tally {
+    let mut tally = Tally::new();
+    for number in 0..count {
+        let plan = Plan::Sequence {
+            letters,
+            number,
+            length,
+        };
+        tally = sequence(tally, plan, world, length);
     }
     tally
 }
 
-fn tell_sequences(
-    rt: &impl Print,
-    name: &[u8],
-    letters: usize,
-    length: usize,
-    count: usize,
-    r: u64,
-    w: u64,
-) -> io::Result<()> {
-    let tally = sequences(letters, length, count, r, w);
-    word(rt, name)?;
-    number(rt, r)?;
-    number(rt, w)?;
-    number(rt, length as u64)?;
-    tell_digest(rt, tally.digest)
-}
-
-// Lengths from 1 on, up to `most` sequences: with one letter more there are `letters` times as many.
+// Those of every length up to the longest, a line each.
 fn lengths(
     rt: &impl Print,
-    name: &[u8],
+    name: &str,
     letters: usize,
-    most: usize,
-    r: u64,
-    w: u64,
-) -> io::Result<()>
-    requires { (2 ≤ letters) × (letters ≤ 10) × (most ≤ 117649) }
-{
-    let mut count = letters;
-    let mut length = 1;
-    while count <= most {
-        tell_sequences(rt, name, letters, length, count, r, w)?;
-        count *= letters;
-        length += 1;
+    longest: u32,
+    world: World,
+) -> io::Result<()> {
+    for length in 1..=longest {
+        let count = letters.saturating_pow(length);
+        let tally = sequences(letters, length as usize, count, world);
+        let read_cost = world.numbers.read_cost;
+        let write_cost = world.numbers.write_cost;
+        print!(rt; "{name} {read_cost} {write_cost} {length}")?;
+        tell_digest(rt, tally.digest)?;
     }
     Ok(())
 }
 
-// Reads, writes and flushes, seven letters: lengths 1 to 6.
-fn small(rt: &impl Print, r: u64, w: u64) -> io::Result<()> {
-    lengths(rt, b"small", 7, 117649, r, w)
+// Reads, writes and flushes, seven letters.
+fn small(rt: &impl Print, read_cost: u64, write_cost: u64) -> io::Result<()> {
+    lengths(rt, "small", 7, 6, small_world(read_cost, write_cost))
 }
 
-// Drops among them, ten letters: lengths 1 to 5.
-fn drops(rt: &impl Print, r: u64, w: u64) -> io::Result<()> {
-    lengths(rt, b"drops", 10, 100000, r, w)
+// Drops among them, ten letters.
+fn drops(rt: &impl Print, read_cost: u64, write_cost: u64) -> io::Result<()> {
+    lengths(rt, "drops", 10, 5, small_world(read_cost, write_cost))
 }
 
 // ---- runs by chance
@@ -240,46 +205,43 @@ const OUT_BYTES: usize = 25;
 fn with_spare(bytes: usize, there: usize) -> usize
     ensures { result ≤ there }
 {
-    calls::at_most(std::num::wrapping_add_usize(bytes, 1), there)
+    bytes.saturating_add(1).min(there)
 }
 
 fn run_world(tally: Tally, world: World, plan: Plan, turns: usize) -> Tally {
-    let mut frames = [0xEEu8; FRAME_BYTES];
-    let mut store = [0u8; STORE_BYTES];
-    let mut out = [0u8; OUT_BYTES];
+    let mut frames = [0xEE; FRAME_BYTES];
+    let mut store = [0; STORE_BYTES];
+    let mut out = [0; OUT_BYTES];
     chance::fill(&mut store);
     let m = with_spare(world.frame_bytes, FRAME_BYTES);
     let n = with_spare(world.store_bytes, STORE_BYTES);
-    let k = with_spare(world.page_bytes, OUT_BYTES);
-    let costs = chance::costs_of(world.frames);
-    let run = fresh_run(world, tally, costs.read, costs.write);
-    take_all(
-        run,
+    let k = with_spare(world.numbers.page_bytes, OUT_BYTES);
+    let run = Run::new(tally, world);
+    run.take_all(
         plan,
         world,
         turns,
-        &mut frames[0..m],
-        &mut store[0..n],
-        &mut out[0..k],
+        &mut frames[..m],
+        &mut store[..n],
+        &mut out[..k],
     )
 }
 
 // A run for each number of frames, a line each, and last how often each answer came.
-fn runs(rt: &impl Print, name: &[u8], plan: Plan, turns: usize) -> io::Result<()> {
-    let mut tally = fresh_tally();
-    let mut frames = 1;
-    while frames <= 64 {
-        let world = chance::world_of(frames);
-        tally.digest = digest::FULL;
-        let after = run_world(tally, world, plan, turns);
-        word(rt, name)?;
-        number(rt, frames as u64)?;
+fn runs(rt: &impl Print, name: &str, plan: Plan, turns: usize) -> io::Result<()> {
+    let mut counts = Counts::new();
+    for frames in 1..=64 {
+        let tally = Tally {
+            counts,
+            ..Tally::new()
+        };
+        let after = run_world(tally, World::of(frames), plan, turns);
+        counts = after.counts;
+        print!(rt; "{name} {frames}")?;
         tell_digest(rt, after.digest)?;
-        tally = after;
-        frames += 1;
     }
-    word(rt, name)?;
-    tell_counts(rt, tally)
+    print!(rt; "{name}")?;
+    tell_counts(rt, &counts)
 }
 
 fn main(rt: HostRuntime) -> io::Result<()> {
@@ -287,7 +249,7 @@ fn main(rt: HostRuntime) -> io::Result<()> {
     small(&rt, 1, 1)?;
     small(&rt, 3, 2)?;
     drops(&rt, 3, 2)?;
-    runs(&rt, b"random", Plan::Random, 2000)?;
-    runs(&rt, b"broken", Plan::Broken, 1500)?;
-    runs(&rt, b"timed", Plan::Timed, 1000)
+    runs(&rt, "random", Plan::Random, 2000)?;
+    runs(&rt, "broken", Plan::Broken, 1500)?;
+    runs(&rt, "timed", Plan::Timed, 1000)
 }

@@ -4,12 +4,19 @@
 
 pub mod change;
 
-use calls::at_most;
 use model::Kept;
 use times::Timed;
 
 // The longest time.
-pub const MOST_TIME: u16 = 65535;
+pub const MOST_TIME: u16 = u16::MAX;
+
+// What a call asks for: a start, the report of a read or that of a write.
+#[derive(Clone, Copy)]
+pub enum Request {
+    Start,
+    Read,
+    Write,
+}
 
 // Kept numbers, and how many places of either window are lent with them.
 #[derive(Clone, Copy)]
@@ -19,28 +26,34 @@ pub struct Lent {
     pub writes: usize,
 }
 
-pub fn lent_whole(kept: Kept, n: usize) -> Lent {
-    Lent {
-        kept,
-        reads: n,
-        writes: n,
-    }
-}
-
-// Start, a report of a read or a report of a write.
-fn make_on(call: usize, kept: Kept, time: u16, reads: &mut [u16], writes: &mut [u16]) -> Timed {
-    match call {
-        0 => times::start(kept.n, reads, writes),
-        1 => times::report_read(kept, time, reads, writes),
-        _ => times::report_write(kept, time, reads, writes),
+impl Lent {
+    // With n places of both.
+    pub fn whole(kept: Kept, n: usize) -> Lent {
+        Lent {
+            kept,
+            reads: n,
+            writes: n,
+        }
     }
 }
 
 // Makes the call on as many places as are lent.
-pub fn make(call: usize, lent: Lent, time: u16, reads: &mut [u16], writes: &mut [u16]) -> Timed {
-    let m = at_most(lent.reads, reads.len());
-    let k = at_most(lent.writes, writes.len());
-    make_on(call, lent.kept, time, &mut reads[0..m], &mut writes[0..k])
+pub fn make(
+    request: Request,
+    lent: Lent,
+    time: u16,
+    reads: &mut [u16],
+    writes: &mut [u16],
+) -> Timed {
+    let m = lent.reads.min(reads.len());
+    let k = lent.writes.min(writes.len());
+    let reads = &mut reads[..m];
+    let writes = &mut writes[..k];
+    match request {
+        Request::Start => times::start(lent.kept.n, reads, writes),
+        Request::Read => times::report_read(lent.kept, time, reads, writes),
+        Request::Write => times::report_write(lent.kept, time, reads, writes),
+    }
 }
 
 // One time in eight is 0, one the shortest, and one the longest.

@@ -9,6 +9,7 @@
 --     used-verdict    a further report is refused for a time of 0 alone
 --     used-fits       a serving call does not refuse what is kept of them
 -- Assumes nothing.
+use Rattle.std.specs.Prelude.{Ok, Err}
 use mathlib.Core.Path.{◌≡◌, refl, sym, ap, ◌∙◌}
 use mathlib.Core.Bool.{true, cond as if-else}
 use mathlib.Core.Logic.{dite}
@@ -24,7 +25,6 @@ use borrow.Author.Tests.{eq-eqb, ne_eqb}
 use Rattle.model.specs.Times.{most_time, kept_fits, fresh_window}
 use Rattle.model.specs.declared.Window.{Window}
 use Rattle.model.specs.declared.Refusal.TheVariants.{ZeroTime}
-use Rattle.model.specs.declared.Verdict.TheVariants.{Fine, Refused}
 use Rattle.window.specs.Window.{sum_of, window_after}
 use Rattle.times.specs.Reports.{Windows, Report, read_took, write_took, time_in, windows_right, noted, report_verdict}
 use Rattle.times.specs.Reports.{start_verdict, start_after, after_reports, read_times, write_times, HasLast}
@@ -148,7 +148,7 @@ fresh-last n =
       sum = zeros-sum n;
     }
 
-start-last : (n : ℕ) (reads writes : List ℕ) → start_verdict n (length reads) (length writes) ≡ Fine → BothLast n [] [] (start_after n reads writes).windows
+start-last : (n : ℕ) (reads writes : List ℕ) → start_verdict n (length reads) (length writes) ≡ Ok tt → BothLast n [] [] (start_after n reads writes).windows
 unfolding start_after
 start-last n reads writes fine =
     let right = rw fine at (start-right n reads writes fine) in
@@ -158,7 +158,7 @@ start-last n reads writes fine =
 abbrev pub used : ℕ → List ℕ → List ℕ → List Report → Windows
 used n reads writes rs = after_reports (start_after n reads writes).windows rs
 
-module _ (n : ℕ) (reads writes : List ℕ) (fine : start_verdict n (length reads) (length writes) ≡ Fine) (rs : List Report) where
+module _ (n : ℕ) (reads writes : List ℕ) (fine : start_verdict n (length reads) (length writes) ≡ Ok tt) (rs : List Report) where
   used-last : BothLast n (read_times rs) (write_times rs) (used n reads writes rs)
   used-last = both-last (start-last n reads writes fine) rs
 
@@ -169,7 +169,7 @@ module _ (n : ℕ) (reads writes : List ℕ) (fine : start_verdict n (length rea
   pub used-right : windows_right (used n reads writes rs) ≡ true
   used-right = used-last.right
 
-  pub used-verdict : (r : Report) → report_verdict (used n reads writes rs) r ≡ if-else (eqb (time_in r) 0) (Refused ZeroTime) Fine
+  pub used-verdict : (r : Report) → report_verdict (used n reads writes rs) r ≡ if-else (eqb (time_in r) 0) (Err ZeroTime) (Ok tt)
   used-verdict r = right-verdict (used n reads writes rs) r used-right
 
   pub used-fits : ((i : ℕ) → get_or (read_times rs) i 0 ≤ most_time) → ((i : ℕ) → get_or (write_times rs) i 0 ≤ most_time)

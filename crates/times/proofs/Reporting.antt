@@ -5,6 +5,7 @@
 --     report-leaves, start-leaves   what either leaves when it says a refusal
 --     zero-refused, zero-unfit      what is returned by a refused start is refused
 -- Assumes nothing.
+use Rattle.std.specs.Prelude.{Ok, Err}
 use mathlib.Core.Path.{◌≡◌, refl, sym, ap, ◌∙◌}
 use mathlib.Core.Bool.{false}
 use mathlib.Core.List.{List}
@@ -16,21 +17,23 @@ use Rattle.model.specs.Refusals.{GivenBy}
 use Rattle.model.specs.Times.{kept_fits}
 use Rattle.model.specs.declared.Refusal.{Refusal}
 use Rattle.model.specs.declared.Refusal.TheVariants.{BrokenWindows}
-use Rattle.model.specs.declared.Verdict.{Verdict}
-use Rattle.model.specs.declared.Verdict.TheVariants.{Fine, Refused}
+use Rattle.model.specs.Words.{Verdict}
 use Rattle.model.proofs.Words.{refusal-one-to-one}
 use Rattle.model.proofs.Exactly.{first-given, given-first}
 use Rattle.times.specs.Reports.{Windows, windows, Report, Reported, windows_right, zero_kept}
 use Rattle.times.specs.Reports.{report_rows, report_verdict, report_if, report_after, start_rows, start_verdict, start_if, start_after}
 
 -- where Refused says its refusal and Fine that the call is noted, what is said leads back to the verdict
-says-refused : (leave : Verdict → Reported) → ((z : Refusal) → (leave (Refused z)).said ≡ refusal_says z) → (leave Fine).said ≡ noted
-    → (v : Verdict) (y : Refusal) → (leave v).said ≡ refusal_says y → v ≡ Refused y
-says-refused leave refuse note (Refused z) y e = ap Refused (refusal-one-to-one z y (sym (refuse z) ∙ e))
-says-refused leave refuse note Fine y e = let z : ◌≡◌ {A = ℕ} 0 1 = cc in absurd (omega arith)
+says-refused : (leave : Verdict → Reported) → ((z : Refusal) → (leave (Err z)).said ≡ refusal_says z) → (leave (Ok tt)).said ≡ noted
+    → (v : Verdict) (y : Refusal) → (leave v).said ≡ refusal_says y → v ≡ Err y
+says-refused leave refuse note (Err z) y e = ap Err (refusal-one-to-one z y (sym (refuse z) ∙ e))
+says-refused leave refuse note (Ok u) y e =
+    let n : (leave (Ok u)).said ≡ noted = note in
+    let z : ◌≡◌ {A = ℕ} 0 1 = cc in
+    absurd (omega arith)
 
 module _ (x : Windows) (r : Report) (y : Refusal) where
-  report-refused : (report_after x r).said ≡ refusal_says y → report_verdict x r ≡ Refused y
+  report-refused : (report_after x r).said ≡ refusal_says y → report_verdict x r ≡ Err y
   unfolding report_after
   report-refused = says-refused (λ v. report_if v x r) (λ z. refl) refl (report_verdict x r) y
 
@@ -47,7 +50,7 @@ module _ (x : Windows) (r : Report) (y : Refusal) where
   report-leaves e = ap (λ (v : Verdict). report_if v x r) (report-refused e)
 
 module _ (n : ℕ) (reads writes : List ℕ) (y : Refusal) where
-  start-refused : (start_after n reads writes).said ≡ refusal_says y → start_verdict n (length reads) (length writes) ≡ Refused y
+  start-refused : (start_after n reads writes).said ≡ refusal_says y → start_verdict n (length reads) (length writes) ≡ Err y
   unfolding start_after
   start-refused = says-refused (λ v. start_if v n reads writes) (λ z. refl) refl (start_verdict n (length reads) (length writes)) y
 

@@ -7,6 +7,7 @@
 --     right-verdict                   a report on right windows is refused for a time of 0 alone
 --     right-fits                      a serving call does not refuse what is kept of right windows of 16-bit times
 -- Assumes nothing.
+use Rattle.std.specs.Prelude.{Ok, Err}
 use mathlib.Core.Path.{◌≡◌, refl}
 use mathlib.Core.Bool.{Bool, true, false, cond as if-else}
 use mathlib.Core.List.{List}
@@ -17,7 +18,6 @@ use borrow.Author.Tests.{eqb-true, eqb-false}
 use Rattle.model.specs.Refusals.{verdict_by}
 use Rattle.model.specs.Times.{most_times, most_time, kept_fits, fresh_kept}
 use Rattle.model.specs.declared.Refusal.TheVariants.{ZeroTime}
-use Rattle.model.specs.declared.Verdict.TheVariants.{Fine, Refused}
 use Rattle.model.proofs.Refusals.{first-clear, not-false, and-both}
 use Rattle.model.proofs.Limits.{both-and, between-means, means-between}
 use Rattle.model.proofs.Times.{fits-kept}
@@ -57,7 +57,7 @@ module _ (x : Windows) where
 
 -- ---- the start of two windows
 
-pub start-right : (n : ℕ) (reads writes : List ℕ) → start_verdict n (length reads) (length writes) ≡ Fine
+pub start-right : (n : ℕ) (reads writes : List ℕ) → start_verdict n (length reads) (length writes) ≡ Ok tt
     → windows_right (start_after n reads writes).windows ≡ true
 unfolding start_after start_verdict
 start-right n reads writes fine =
@@ -69,11 +69,11 @@ start-right n reads writes fine =
 -- ---- reports
 
 module _ (x : Windows) (r : Report) where
-  pub right-verdict : windows_right x ≡ true → report_verdict x r ≡ if-else (eqb (time_in r) 0) (Refused ZeroTime) Fine
+  pub right-verdict : windows_right x ≡ true → report_verdict x r ≡ if-else (eqb (time_in r) 0) (Err ZeroTime) (Ok tt)
   unfolding report_verdict
   right-verdict right = rw right (go (eqb (time_in r) 0))
     where
-      go : (b : Bool) → verdict_by b ZeroTime Fine ≡ if-else b (Refused ZeroTime) Fine
+      go : (b : Bool) → verdict_by b ZeroTime (Ok tt) ≡ if-else b (Err ZeroTime) (Ok tt)
       go true = refl
       go false = refl
 
@@ -83,7 +83,7 @@ module _ (x : Windows) (r : Report) where
   unfolding report_after
   report-cases P right stay note = rw (right-verdict right) (go (eqb (time_in r) 0) refl)
     where
-      go : (b : Bool) → eqb (time_in r) 0 ≡ b → P (report_if (if-else b (Refused ZeroTime) Fine) x r).windows
+      go : (b : Bool) → eqb (time_in r) 0 ≡ b → P (report_if (if-else b (Err ZeroTime) (Ok tt)) x r).windows
       go true e = stay (eqb-true (time_in r) 0 e)
       go false e = note (eqb-false (time_in r) 0 e)
 

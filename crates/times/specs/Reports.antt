@@ -4,15 +4,14 @@
 --     timed_left                  what a call returned, with the windows as it left them
 --     HasLast                    a window has the last n times reported, in their places
 -- Assumes nothing.
-use Rattle.std.specs.Prelude.{◌≡◌, Bool, ◌&&◌, cond as if-else, List, [], ◌∷◌, ℕ, ◌+◌, ◌%◌, ◌≤◌, ◌<◌, min, eqb, length, get_or, set, replicate}
+use Rattle.std.specs.Prelude.{◌≡◌, Bool, ◌&&◌, cond as if-else, List, [], ◌∷◌, ℕ, ◌+◌, ◌%◌, ◌≤◌, ◌<◌, min, eqb, length, get_or, set, replicate, Ok, Err}
 use Rattle.model.specs.Words.{Said, noted as said_noted, refusal_says, timing_says}
 use Rattle.model.specs.Refusals.{Row, first, broken_windows}
 use Rattle.model.specs.Times.{length_fits, fresh_kept}
 use Rattle.model.specs.declared.Window.{Window}
 use Rattle.model.specs.declared.Kept.{Kept}
 use Rattle.model.specs.declared.Refusal.TheVariants.{ZeroTime}
-use Rattle.model.specs.declared.Verdict.{Verdict}
-use Rattle.model.specs.declared.Verdict.TheVariants.{Fine, Refused}
+use Rattle.model.specs.Words.{Verdict}
 use Rattle.window.specs.Window.{sum_of, window_right, window_after}
 use Rattle.times.specs.declared.Timed.{Timed}
 
@@ -66,8 +65,8 @@ noted x (write_took t) =
 
 -- "a refused report changes nothing"
 abbrev pub report_if : Verdict → Windows → Report → Reported
-report_if (Refused y) x r = record { windows = x; said = refusal_says y }
-report_if Fine x r = record { windows = noted x r; said = said_noted }
+report_if (Err y) x r = record { windows = x; said = refusal_says y }
+report_if (Ok _) x r = record { windows = noted x r; said = said_noted }
 
 unfoldable pub report_after : Windows → Report → Reported
 report_after x r = report_if (report_verdict x r) x r
@@ -85,8 +84,8 @@ abbrev pub zero_kept : Kept
 zero_kept = fresh_kept 0
 
 abbrev pub start_if : Verdict → ℕ → List ℕ → List ℕ → Reported
-start_if (Refused y) n reads writes = record { windows = windows zero_kept reads writes; said = refusal_says y }
-start_if Fine n reads writes = record { windows = windows (fresh_kept n) (replicate n 0) (replicate n 0); said = said_noted }
+start_if (Err y) n reads writes = record { windows = windows zero_kept reads writes; said = refusal_says y }
+start_if (Ok _) n reads writes = record { windows = windows (fresh_kept n) (replicate n 0) (replicate n 0); said = said_noted }
 
 unfoldable pub start_after : ℕ → List ℕ → List ℕ → Reported
 start_after n reads writes = start_if (start_verdict n (length reads) (length writes)) n reads writes

@@ -2,38 +2,37 @@
 // calls.
 #![tactic(auto)]
 
-ghost use Rattle.std.specs.Prelude.{◌≡◌, ◌&&◌, eqb};
+ghost use Rattle.std.specs.Prelude.{◌≡◌, ◌&&◌, eqb, Ok, Err};
 ghost use Rattle.model.specs.Times.{length_fits};
 ghost use Rattle.model.specs.Refusals.{first};
-ghost use Rattle.model.specs.declared.Timing.TheVariants.{Refused, Noted};
 ghost use Rattle.times.specs.Reports.{windows, read_took, write_took, windows_right, report_rows, start_after, report_after, timed_left};
 
-use model::{Kept, Refusal, Timing, Verdict};
+use model::{Kept, Refusal};
 
 // What the start of two windows and a report return: the numbers that are kept, and the answer.
 #[derive(Clone, Copy)]
 pub struct Timed {
     pub kept: Kept,
-    pub answer: Timing,
+    pub answer: Result<(), Refusal>,
 }
 
 // ---- what a call returns
 
 fn refused(kept: Kept, why: Refusal) -> Timed
-    ensures { (result.kept ≡ kept) × (result.answer ≡ Refused why) }
+    ensures { (result.kept ≡ kept) × (result.answer ≡ Err why) }
 {
     Timed {
         kept,
-        answer: Timing::Refused(why),
+        answer: Err(why),
     }
 }
 
 fn noted(kept: Kept) -> Timed
-    ensures { (result.kept ≡ kept) × (result.answer ≡ Noted) }
+    ensures { (result.kept ≡ kept) × (result.answer ≡ Ok tt) }
 {
     Timed {
         kept,
-        answer: Timing::Noted,
+        answer: Ok(()),
     }
 }
 
@@ -80,18 +79,18 @@ fn both_right(kept: Kept, reads: &[u16], writes: &[u16]) -> bool
 }
 
 // Refusal 13 or 12 of a report, of a write's time as of a read's: the rows ask for the time alone.
-fn verdict(kept: Kept, time: u16, reads: &[u16], writes: &[u16]) -> Verdict
+fn verdict(kept: Kept, time: u16, reads: &[u16], writes: &[u16]) -> Result<(), Refusal>
     ensures { result ≡ first (report_rows (windows kept reads.now writes.now) (read_took time)) }
 {
     let kept_true = both_right(kept, reads, writes);
     let some_time = time != 0;
     if !kept_true {
-        return Verdict::Refused(Refusal::BrokenWindows);
+        return Err(Refusal::BrokenWindows);
     }
     if !some_time {
-        return Verdict::Refused(Refusal::ZeroTime);
+        return Err(Refusal::ZeroTime);
     }
-    Verdict::Fine
+    Ok(())
 }
 
 // Reports the time of a physical read. Refused: 13, 12.
@@ -99,8 +98,8 @@ pub fn report_read(kept: Kept, time: u16, reads: &mut [u16], writes: &[u16]) -> 
     ensures { timed_left result reads.new writes.now ≡ report_after (windows kept reads.old writes.now) (read_took time) }
 {
     match verdict(kept, time, reads, writes) {
-        Verdict::Refused(why) => refused(kept, why),
-        Verdict::Fine => {
+        Err(why) => refused(kept, why),
+        Ok(()) => {
             let placed = window::place(kept.n, kept.reads, reads, time);
             let mut after = kept;
             after.reads = placed;
@@ -114,8 +113,8 @@ pub fn report_write(kept: Kept, time: u16, reads: &[u16], writes: &mut [u16]) ->
     ensures { timed_left result reads.now writes.new ≡ report_after (windows kept reads.now writes.old) (write_took time) }
 {
     match verdict(kept, time, reads, writes) {
-        Verdict::Refused(why) => refused(kept, why),
-        Verdict::Fine => {
+        Err(why) => refused(kept, why),
+        Ok(()) => {
             let placed = window::place(kept.n, kept.writes, writes, time);
             let mut after = kept;
             after.writes = placed;

@@ -2,6 +2,7 @@
 -- these bytes, since each is below 256. So each record that is found is written as the four bytes in which it was found, and the trailer as the last
 -- twenty. The distance of an accepted trailer is twenty and four for each record, so the notes, the records and the trailer are the whole file, in
 -- that order and with nothing between them. Assumes nothing.
+use Rattle.std.specs.Prelude.{Option, Some, None, is_none, Ok}
 use mathlib.Core.Path.{◌≡◌, refl, sym, ap, ◌∙◌}
 use mathlib.Core.Bool.{Bool, true, false, ◌&&◌, cond as if-else}
 use mathlib.Core.List.{List, ◌∷◌, ◌++◌}
@@ -17,13 +18,10 @@ use Rattle.little.specs.Little.{bytes_of, AllBelow}
 use Rattle.little.proofs.Laws.{all_below-take, all_below-drop, bytes_of-number_of}
 use Rattle.model.proofs.Refusals.{and-both}
 use Rattle.trace.specs.declared.Trailer.{Trailer}
-use Rattle.trace.specs.declared.Checked.TheVariants.{Fine}
 use Rattle.trace.specs.declared.Record.{Record}
 use Rattle.trace.specs.declared.Record.TheVariants.{Read, Write, Flush, Drop}
-use Rattle.trace.specs.declared.Next.{Next}
-use Rattle.trace.specs.declared.Next.TheVariants.{Record as Found, End}
 use Rattle.trace.specs.Format.{number_at, trailer_length, trailer_at, numbers_in, header_of, record_of, record_in}
-use Rattle.trace.specs.Format.{start_of, record_at, is_end, checked_of, notes_in, records_from, records_in}
+use Rattle.trace.specs.Format.{start_of, record_at, checked_of, notes_in, records_from, records_in}
 use Rattle.trace.specs.Encode.{record_bytes, records_bytes, trailer_of, trailer_bytes, trace_bytes, RecordIn, RecordsIn}
 use Rattle.trace.proofs.Bytes.{number_at-below}
 use Rattle.trace.proofs.Trailers.{header-trailer, header-accepts}
@@ -42,7 +40,7 @@ number_at-rest at w to s e h b = rw (← e, number_at-bytes at w s (omega arith)
 
 -- ---- the trailer
 
-pub distance-fits : (s : List ℕ) (t : Trailer) → AllBelow 256 s → header_of s ≡ Fine t → t.distance < 2 ^ 32
+pub distance-fits : (s : List ℕ) (t : Trailer) → AllBelow 256 s → header_of s ≡ Ok t → t.distance < 2 ^ 32
 unfolding trailer_at
 distance-fits s t b e =
     let d : number_at (length s - trailer_length) 4 s ≡ t.distance = ap (λ u. u.distance) (header-trailer s t e) in
@@ -62,20 +60,20 @@ trailer_at-bytes s at h b =
 
 -- ---- a record
 
-not-found : (r : Record) → ◌≡◌ {A = Next} End (Found r) → ⊥
-not-found r e = let z : ◌≡◌ {A = ℕ} 0 1 = cc in omega arith
+not-found : (r : Record) → ◌≡◌ {A = (Option Record)} None (Some r) → ⊥
+not-found r e = cc
 
 -- a record was found by a test's answer, or by what follows the test
-found-by : {W : Type 0} (b : Bool) {x y : Next} {r : Record} → ((b ≡ true) × (x ≡ Found r) → W) → (y ≡ Found r → W) → if-else b x y ≡ Found r → W
+found-by : {W : Type 0} (b : Bool) {x y : Option Record} {r : Record} → ((b ≡ true) × (x ≡ Some r) → W) → (y ≡ Some r → W) → if-else b x y ≡ Some r → W
 found-by true here later e = here (refl, e)
 found-by false here later e = later e
 
-found-if : (b : Bool) (x r : Record) → if-else b (Found x) End ≡ Found r → (b ≡ true) × (x ≡ r)
+found-if : (b : Bool) (x r : Record) → if-else b (Some x) None ≡ Some r → (b ≡ true) × (x ≡ r)
 found-if true x r e = (refl, cc)
 found-if false x r e = absurd (not-found r e)
 
 -- a letter, a value and a page that spell a record are those that are written for it, and its page is one of the N
-record_of-bytes : (N letter value page : ℕ) (r : Record) → record_of N letter value page ≡ Found r
+record_of-bytes : (N letter value page : ℕ) (r : Record) → record_of N letter value page ≡ Some r
     → (record_bytes r ≡ letter ∷ value ∷ bytes_of 2 page) × RecordIn N r
 unfolding record_of
 record_of-bytes N letter value page r e =
@@ -85,31 +83,31 @@ record_of-bytes N letter value page r e =
     Was : Type 0
     Was = (record_bytes r ≡ letter ∷ value ∷ bytes_of 2 page) × RecordIn N r
 
-    read : (eqb letter 82 ≡ true) × (if-else (eqb value 0 && ltb page N) (Found (Read page)) End ≡ Found r) → Was
+    read : (eqb letter 82 ≡ true) × (if-else (eqb value 0 && ltb page N) (Some (Read page)) None ≡ Some r) → Was
     read h =
         let f = found-if _ (Read page) r h.1 in
         let c = and-both (eqb value 0) (ltb page N) f.0 in
         rw (← f.1, eqb-true letter 82 h.0, eqb-true value 0 c.0) (refl, ltb-true page N c.1)
 
-    write : (eqb letter 87 ≡ true) × (if-else (ltb page N) (Found (Write page value)) End ≡ Found r) → Was
+    write : (eqb letter 87 ≡ true) × (if-else (ltb page N) (Some (Write page value)) None ≡ Some r) → Was
     write h =
         let f = found-if _ (Write page value) r h.1 in
         rw (← f.1, eqb-true letter 87 h.0) (refl, ltb-true page N f.0)
 
-    flush : (eqb letter 70 ≡ true) × (if-else (eqb value 0 && eqb page 0) (Found Flush) End ≡ Found r) → Was
+    flush : (eqb letter 70 ≡ true) × (if-else (eqb value 0 && eqb page 0) (Some Flush) None ≡ Some r) → Was
     flush h =
         let f = found-if _ Flush r h.1 in
         let c = and-both (eqb value 0) (eqb page 0) f.0 in
         rw (← f.1, eqb-true letter 70 h.0, eqb-true value 0 c.0, eqb-true page 0 c.1) (refl, tt)
 
-    dropped : (eqb letter 68 ≡ true) × (if-else (eqb value 0 && ltb page N) (Found (Drop page)) End ≡ Found r) → Was
+    dropped : (eqb letter 68 ≡ true) × (if-else (eqb value 0 && ltb page N) (Some (Drop page)) None ≡ Some r) → Was
     dropped h =
         let f = found-if _ (Drop page) r h.1 in
         let c = and-both (eqb value 0) (ltb page N) f.0 in
         rw (← f.1, eqb-true letter 68 h.0, eqb-true value 0 c.0) (refl, ltb-true page N c.1)
 
 -- the four bytes in which a record was found are those that are written for it
-record_in-bytes : (s : List ℕ) (at N : ℕ) (r : Record) → record_in s at N ≡ Found r → at + 4 ≤ length s → AllBelow 256 s
+record_in-bytes : (s : List ℕ) (at N : ℕ) (r : Record) → record_in s at N ≡ Some r → at + 4 ≤ length s → AllBelow 256 s
     → record_bytes r ≡ take 4 (drop at s)
 unfolding record_in
 record_in-bytes s at N r e h b =
@@ -119,33 +117,33 @@ record_in-bytes s at N r e h b =
     in
     rw cut (rw (number_at-bytes (at + 2) 2 s (omega arith) b) at (record_of-bytes N _ _ _ r e).0)
 
-record_in-in : (s : List ℕ) (at N : ℕ) (r : Record) → record_in s at N ≡ Found r → RecordIn N r
+record_in-in : (s : List ℕ) (at N : ℕ) (r : Record) → record_in s at N ≡ Some r → RecordIn N r
 unfolding record_in
 record_in-in s at N r e = (record_of-bytes N _ _ _ r e).1
 
 -- ---- the records
 
 -- the one at place k of a trace that is not refused
-found : (s : List ℕ) (t : Trailer) → checked_of s ≡ Fine t → (k : ℕ) → k < t.records → (r : Record) × (record_at s k ≡ Found r)
+found : (s : List ℕ) (t : Trailer) → checked_of s ≡ Ok t → (k : ℕ) → k < t.records → (r : Record) × (record_at s k ≡ Some r)
 found s t e k h = go (record_at s k) (fine-record s t e k h)
   where
-    go : (x : Next) → is_end x ≡ false → (r : Record) × (x ≡ Found r)
-    go (Found r) d = (r, refl)
-    go End d = absurd (let z : ◌≡◌ {A = ℕ} 0 1 = cc in omega arith)
+    go : (x : Option Record) → is_none x ≡ false → (r : Record) × (x ≡ Some r)
+    go (Some r) d = (r, refl)
+    go None d = cc
 
 -- of the `left` records from place k on, all are found
-records-length : (s : List ℕ) (t : Trailer) → checked_of s ≡ Fine t → (k left : ℕ) → k + left ≤ t.records → length (records_from s k left) ≡ left
+records-length : (s : List ℕ) (t : Trailer) → checked_of s ≡ Ok t → (k left : ℕ) → k + left ≤ t.records → length (records_from s k left) ≡ left
 records-length s t e k zero h = refl
 records-length s t e k (suc left) h = rw (found s t e k (omega arith)).1 (ap suc (records-length s t e (k + 1) left (omega arith)))
 
-records-in : (s : List ℕ) (t : Trailer) → checked_of s ≡ Fine t → (k left : ℕ) → k + left ≤ t.records → RecordsIn t.pages (records_from s k left)
+records-in : (s : List ℕ) (t : Trailer) → checked_of s ≡ Ok t → (k left : ℕ) → k + left ≤ t.records → RecordsIn t.pages (records_from s k left)
 records-in s t e k zero h = tt
 records-in s t e k (suc left) h =
     let f = found s t e k (omega arith) in
     let d = sym (record_at-in s t (fine-header s t e).0 k (omega arith)) ∙ f.1 in
     rw f.1 (record_in-in s (start_of s t k) t.pages f.0 d, records-in s t e (k + 1) left (omega arith))
 
-records-bytes : (s : List ℕ) (t : Trailer) → AllBelow 256 s → checked_of s ≡ Fine t → (k left : ℕ) → k + left ≤ t.records
+records-bytes : (s : List ℕ) (t : Trailer) → AllBelow 256 s → checked_of s ≡ Ok t → (k left : ℕ) → k + left ≤ t.records
     → records_bytes (records_from s k left) ≡ take (4 * left) (drop (start_of s t k) s)
 records-bytes s t b e k zero h = refl
 records-bytes s t b e k (suc left) h =
@@ -159,16 +157,16 @@ records-bytes s t b e k (suc left) h =
     in
     rw (f.1, one, records-bytes s t b e (k + 1) left (omega arith), at, mul-suc, add_comm (4 * left) 4, take-add, drop-drop)
 
-pub records_in-length : (s : List ℕ) (t : Trailer) → checked_of s ≡ Fine t → length (records_in s t) ≡ t.records
+pub records_in-length : (s : List ℕ) (t : Trailer) → checked_of s ≡ Ok t → length (records_in s t) ≡ t.records
 records_in-length s t e = records-length s t e 0 t.records (omega arith)
 
-pub records_in-in : (s : List ℕ) (t : Trailer) → checked_of s ≡ Fine t → RecordsIn t.pages (records_in s t)
+pub records_in-in : (s : List ℕ) (t : Trailer) → checked_of s ≡ Ok t → RecordsIn t.pages (records_in s t)
 records_in-in s t e = records-in s t e 0 t.records (omega arith)
 
 -- ---- the whole trace
 
 -- the trailer that is written is the one that was read
-trailer_of-in : (s : List ℕ) (t : Trailer) → checked_of s ≡ Fine t → trailer_of (length (records_in s t)) (numbers_in t) ≡ t
+trailer_of-in : (s : List ℕ) (t : Trailer) → checked_of s ≡ Ok t → trailer_of (length (records_in s t)) (numbers_in t) ≡ t
 trailer_of-in s t e =
     let l = records_in-length s t e in
     let d : trailer_length + 4 * length (records_in s t) ≡ t.distance = rw l (sym (header-accepts s t (fine-header s t e).0).whole) in
@@ -182,7 +180,7 @@ trailer_of-in s t e =
       write_cost = t.write_cost;
     }
 
-pub encoded : (s : List ℕ) (t : Trailer) → AllBelow 256 s → checked_of s ≡ Fine t
+pub encoded : (s : List ℕ) (t : Trailer) → AllBelow 256 s → checked_of s ≡ Ok t
     → trace_bytes (notes_in s t) (records_in s t) (numbers_in t) ≡ s
 unfolding trace_bytes
 encoded s t b e =

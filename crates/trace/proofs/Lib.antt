@@ -1,5 +1,5 @@
--- The laws of `trace`: Bytes and Records for its own functions; Reading, Round (encoded, then read) and Back (read, then encoded) for its callers,
--- Trailers and Settled for both. Assumes nothing.
+-- The laws of `trace`: Bytes and Records for its own functions, which cite them by Rules; Reading, Round (encoded, then read) and Back (read, then encoded)
+-- for its callers, Trailers and Settled for both. Assumes nothing.
 mod Bytes
 pub mod Trailers
 mod Records
@@ -7,3 +7,4 @@ pub mod Settled
 pub mod Reading
 pub mod Round
 pub mod Back
+mod Rules

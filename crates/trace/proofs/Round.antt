@@ -1,6 +1,7 @@
 -- What is encoded decodes to itself: the header, each record and the whole trace, and with it the notes and the list of records. The notes and the
 -- records have known lengths, so the reader's places in the file are the starts of the trailer and of each record; there the bytes of a number spell
 -- the number. Assumes nothing.
+use Rattle.std.specs.Prelude.{Some, is_none, Ok}
 use mathlib.Core.Path.{◌≡◌, refl, sym, ap, ◌∙◌}
 use mathlib.Core.Bool.{true}
 use mathlib.Core.List.{List, [], ◌∷◌, ◌++◌, append_assoc}
@@ -15,16 +16,14 @@ use Rattle.little.specs.Little.{bytes_of}
 use Rattle.little.proofs.Laws.{number_of-bytes_of}
 use Rattle.model.specs.Numbers.{Numbers, in_limits}
 use Rattle.trace.specs.declared.Trailer.{Trailer}
-use Rattle.trace.specs.declared.Checked.TheVariants.{Fine}
 use Rattle.trace.specs.declared.Record.{Record}
 use Rattle.trace.specs.declared.Record.TheVariants.{Read, Write, Flush, Drop}
-use Rattle.trace.specs.declared.Next.TheVariants.{Record as Found}
 use Rattle.trace.specs.Format.{number_at, trailer_length, trailer_at, recorded_on, points_back, judged, header_of}
-use Rattle.trace.specs.Format.{record_of, record_in, record_at, is_end, checked_of, notes_in, records_from, records_in}
+use Rattle.trace.specs.Format.{record_of, record_in, record_at, checked_of, notes_in, records_from, records_in}
 use Rattle.trace.specs.Encode.{record_bytes, records_bytes, trailer_of, trailer_bytes, trace_bytes, RecordIn, RecordsIn}
 use Rattle.trace.proofs.Bytes.{number_at-drop}
 use Rattle.model.proofs.Limits.{on_drive-limits}
-use Rattle.trace.proofs.Records.{first_bad-zero}
+use Rattle.trace.proofs.Records.{first_bad-fine}
 
 -- ---- the parts of the file
 
@@ -108,12 +107,12 @@ trailer-decoded s at t e f =
     }
 
 judged-decoded : (m k : ℕ) (n : Numbers) → in_limits (recorded_on n) ≡ true → trailer_length + 4 * k ≤ m
-    → judged m (trailer_of k n) ≡ Fine (trailer_of k n)
+    → judged m (trailer_of k n) ≡ Ok (trailer_of k n)
 unfolding judged points_back
 judged-decoded m k n e h = rw (eq-eqb (trailer_length + 4 * k) _ refl, le-leb (trailer_length + 4 * k) m h, e)
 
 pub decoded-header : (notes : List ℕ) (rs : List Record) (n : Numbers) → in_limits (recorded_on n) ≡ true → trailer_length + 4 * length rs < 2 ^ 32
-    → header_of (trace_bytes notes rs n) ≡ Fine (trailer_of (length rs) n)
+    → header_of (trace_bytes notes rs n) ≡ Ok (trailer_of (length rs) n)
 unfolding header_of
 decoded-header notes rs n e h =
     let s = trace_bytes notes rs n in
@@ -132,7 +131,7 @@ record_in-drop s at N =
     rw (letter, value, number_at-drop at 2 2 s)
 
 -- a record's bytes, whatever follows them
-record-decoded : (N : ℕ) (r : Record) (rest : List ℕ) → N ≤ 65536 → RecordIn N r → record_in (record_bytes r ++ rest) 0 N ≡ Found r
+record-decoded : (N : ℕ) (r : Record) (rest : List ℕ) → N ≤ 65536 → RecordIn N r → record_in (record_bytes r ++ rest) 0 N ≡ Some r
 unfolding record_in record_of number_at bytes_of
 record-decoded N (Read q) rest l h = rw (number_of-bytes_of 2 q (omega arith), lt-ltb q N h)
 record-decoded N (Write q v) rest l h = rw (number_of-bytes_of 2 q (omega arith), lt-ltb q N h)
@@ -145,7 +144,7 @@ drop-record r rs rest k =
     rw (append_assoc, mul-suc, add_comm (4 * k) 4, ← drop-drop, drop_at (record_bytes r) _ 4 (record_bytes-length r))
 
 records-decoded : (N : ℕ) (rs : List Record) (rest : List ℕ) → N ≤ 65536 → RecordsIn N rs → (k : ℕ) → k < length rs
-    → record_in (drop (4 * k) (records_bytes rs ++ rest)) 0 N ≡ Found (get_or rs k Flush)
+    → record_in (drop (4 * k) (records_bytes rs ++ rest)) 0 N ≡ Some (get_or rs k Flush)
 records-decoded N [] rest l h k i = absurd (not-suc-le-zero i)
 records-decoded N (r ∷ rs) rest l h zero i = rw append_assoc (record-decoded N r (records_bytes rs ++ rest) l h.0)
 records-decoded N (r ∷ rs) rest l h (suc k) i =
@@ -153,7 +152,7 @@ records-decoded N (r ∷ rs) rest l h (suc k) i =
 
 -- record k of the file
 record_in-decoded : (notes : List ℕ) (rs : List Record) (n : Numbers) → in_limits (recorded_on n) ≡ true → RecordsIn n.N rs
-    → (k : ℕ) → k < length rs → record_in (trace_bytes notes rs n) (length notes + 4 * k) n.N ≡ Found (get_or rs k Flush)
+    → (k : ℕ) → k < length rs → record_in (trace_bytes notes rs n) (length notes + 4 * k) n.N ≡ Some (get_or rs k Flush)
 record_in-decoded notes rs n e r k h =
     rw (record_in-drop, ← drop-drop, drop-notes) (records-decoded n.N rs _ (on_drive-limits _ _ n e).2 r k h)
 
@@ -162,7 +161,7 @@ start-decoded : (notes : List ℕ) (rs : List Record) (n : Numbers) → length (
 start-decoded notes rs n = let l = trace_bytes-length notes rs n in omega arith
 
 pub decoded-record : (notes : List ℕ) (rs : List Record) (n : Numbers) → in_limits (recorded_on n) ≡ true → RecordsIn n.N rs
-    → trailer_length + 4 * length rs < 2 ^ 32 → (k : ℕ) → k < length rs → record_at (trace_bytes notes rs n) k ≡ Found (get_or rs k Flush)
+    → trailer_length + 4 * length rs < 2 ^ 32 → (k : ℕ) → k < length rs → record_at (trace_bytes notes rs n) k ≡ Some (get_or rs k Flush)
 unfolding record_at
 decoded-record notes rs n e r h k i =
     rw (decoded-header notes rs n e h, lt-ltb k (length rs) i, start-decoded notes rs n) (record_in-decoded notes rs n e r k i)
@@ -170,12 +169,12 @@ decoded-record notes rs n e r h k i =
 -- ---- the whole trace
 
 pub decoded : (notes : List ℕ) (rs : List Record) (n : Numbers) → in_limits (recorded_on n) ≡ true → RecordsIn n.N rs
-    → trailer_length + 4 * length rs < 2 ^ 32 → checked_of (trace_bytes notes rs n) ≡ Fine (trailer_of (length rs) n)
+    → trailer_length + 4 * length rs < 2 ^ 32 → checked_of (trace_bytes notes rs n) ≡ Ok (trailer_of (length rs) n)
 unfolding checked_of
 decoded notes rs n e r h =
     let none =
-    first_bad-zero (trace_bytes notes rs n) n.N (length notes) 0 (length rs)
-    (λ k l m. ap is_end (record_in-decoded notes rs n e r k (omega arith)))
+    first_bad-fine (trace_bytes notes rs n) n.N (length notes) 0 (length rs)
+    (λ k l m. ap is_none (record_in-decoded notes rs n e r k (omega arith)))
     in
     rw (decoded-header notes rs n e h, start-decoded notes rs n, none)
 
@@ -186,7 +185,7 @@ unfolding trace_bytes
 decoded-notes notes rs n = rw (start-decoded notes rs n) (take-append_seam notes _)
 
 -- where each of rs is found at its place, the `left` records from place k on are those of rs
-records_from-drop : (s : List ℕ) (rs : List Record) → ((k : ℕ) → k < length rs → record_at s k ≡ Found (get_or rs k Flush))
+records_from-drop : (s : List ℕ) (rs : List Record) → ((k : ℕ) → k < length rs → record_at s k ≡ Some (get_or rs k Flush))
     → (k left : ℕ) → k + left ≡ length rs → records_from s k left ≡ drop k rs
 records_from-drop s rs f k zero h = sym (drop_of_length-le rs {i = k} (omega arith))
 records_from-drop s rs f k (suc left) h =

@@ -1,29 +1,26 @@
 -- The promises on traces settle the answers: no two answers say the same, so two answers that a promise allows are equal. Assumes nothing.
+use Rattle.std.specs.Prelude.{Option, Some, None, Ok, Err}
 use mathlib.Core.Bool.{cond as if-else}
 use mathlib.Core.Path.{◌≡◌, refl, sym, ap, ◌∙◌}
 use mathlib.Core.List.{List}
 use Prim.Native.Nat.{ℕ}
-use native.Mathlib.Omega.{arith}
 use lib.Dec.{eqb}
 use lib.ListN.{get_or}
 use denote.Ref.{Bor}
 use Rattle.model.proofs.Words.{refusal-one-to-one}
-use Rattle.trace.specs.declared.Checked.{Checked}
-use Rattle.trace.specs.declared.Checked.TheVariants.{Refused, Fine}
 use Rattle.trace.specs.declared.Record.TheVariants.{Read, Write, Flush, Drop}
-use Rattle.trace.specs.declared.Next.{Next}
-use Rattle.trace.specs.declared.Next.TheVariants.{Record as Found, End}
+use Rattle.trace.specs.declared.Record.{Record}
 use Rattle.trace.specs.declared.reader.Reader.{Reader}
-use Rattle.trace.specs.Format.{header_of, record_at, checked_of, place_after, first_place}
+use Rattle.trace.specs.Format.{Checked, header_of, record_at, checked_of, place_after, first_place}
 use Rattle.trace.specs.Words.{checked_says, next_says}
 
 -- ---- what is said of a trace
 
 pub checked-one-to-one : (x y : Checked) → checked_says x ≡ checked_says y → x ≡ y
-checked-one-to-one (Refused x) (Refused y) e = ap Refused (refusal-one-to-one x y (cc))
-checked-one-to-one (Refused x) (Fine u) e = absurd (let z : ◌≡◌ {A = ℕ} 0 1 = cc in omega arith)
-checked-one-to-one (Fine t) (Refused y) e = absurd (let z : ◌≡◌ {A = ℕ} 0 1 = cc in omega arith)
-checked-one-to-one (Fine t) (Fine u) e =
+checked-one-to-one (Err x) (Err y) e = ap Err (refusal-one-to-one x y (cc))
+checked-one-to-one (Err x) (Ok u) e = cc
+checked-one-to-one (Ok t) (Err y) e = cc
+checked-one-to-one (Ok t) (Ok u) e =
     let distance : t.distance ≡ u.distance = cc in
     let records : t.records ≡ u.records = cc in
     let frames : t.frames ≡ u.frames = cc in
@@ -31,7 +28,7 @@ checked-one-to-one (Fine t) (Fine u) e =
     let pages : t.pages ≡ u.pages = cc in
     let read_cost : t.read_cost ≡ u.read_cost = cc in
     let write_cost : t.write_cost ≡ u.write_cost = cc in
-    λ i. Fine record {
+    λ i. Ok record {
       distance = distance i;
       records = records i;
       frames = frames i;
@@ -49,27 +46,27 @@ check-settled s x y a b = checked-one-to-one x y (a ∙ sym b)
 
 -- ---- what is said of a place: it leads back to what was found
 
-abbrev next_by : ℕ → ℕ → ℕ → Next
+abbrev next_by : ℕ → ℕ → ℕ → Option Record
 next_by letter value page =
-    if-else (eqb letter 82) (Found (Read page))
-    (if-else (eqb letter 87) (Found (Write page value))
-    (if-else (eqb letter 70) (Found Flush)
-    (if-else (eqb letter 68) (Found (Drop page)) End)))
+    if-else (eqb letter 82) (Some (Read page))
+    (if-else (eqb letter 87) (Some (Write page value))
+    (if-else (eqb letter 70) (Some Flush)
+    (if-else (eqb letter 68) (Some (Drop page)) None)))
 
-abbrev next_in : List ℕ → Next
+abbrev next_in : List ℕ → Option Record
 next_in said = next_by (get_or said 0 0) (get_or said 1 0) (get_or said 2 0)
 
-next-home : (x : Next) → next_in (next_says x) ≡ x
-next-home (Found (Read q)) = refl
-next-home (Found (Write q v)) = refl
-next-home (Found Flush) = refl
-next-home (Found (Drop q)) = refl
-next-home End = refl
+next-home : (x : Option Record) → next_in (next_says x) ≡ x
+next-home (Some (Read q)) = refl
+next-home (Some (Write q v)) = refl
+next-home (Some Flush) = refl
+next-home (Some (Drop q)) = refl
+next-home None = refl
 
-pub next-one-to-one : (x y : Next) → next_says x ≡ next_says y → x ≡ y
+pub next-one-to-one : (x y : Option Record) → next_says x ≡ next_says y → x ≡ y
 next-one-to-one x y e = sym (next-home x) ∙ ap next_in e ∙ next-home y
 
-pub record-at-settled : (s : List ℕ) (k : ℕ) (x y : Next) → next_says x ≡ next_says (record_at s k) → next_says y ≡ next_says (record_at s k) → x ≡ y
+pub record-at-settled : (s : List ℕ) (k : ℕ) (x y : Option Record) → next_says x ≡ next_says (record_at s k) → next_says y ≡ next_says (record_at s k) → x ≡ y
 record-at-settled s k x y a b = next-one-to-one x y (a ∙ sym b)
 
 pub place-after-settled : (s : List ℕ) (k x y : ℕ) → x ≡ place_after s k → y ≡ place_after s k → x ≡ y
@@ -91,10 +88,10 @@ pub moved-settled : (r x y : Reader) → (x.trace ≡ r.trace) × (x.place ≡ p
     → (y.trace ≡ r.trace) × (y.place ≡ place_after r.trace.now r.place) → x ≡ y
 moved-settled r x y a b = reader-one-to-one x y (a.0 ∙ sym b.0) (a.1 ∙ sym b.1)
 
-pub next-settled : (r : Reader) (x y : Next) → next_says x ≡ next_says (record_at r.trace.now r.place)
+pub next-settled : (r : Reader) (x y : Option Record) → next_says x ≡ next_says (record_at r.trace.now r.place)
     → next_says y ≡ next_says (record_at r.trace.now r.place) → x ≡ y
 next-settled r x y a b = next-one-to-one x y (a ∙ sym b)
 
-pub nth-settled : (trace : Bor (List ℕ)) (k : ℕ) (x y : Next) → next_says x ≡ next_says (record_at trace.now k)
+pub nth-settled : (trace : Bor (List ℕ)) (k : ℕ) (x y : Option Record) → next_says x ≡ next_says (record_at trace.now k)
     → next_says y ≡ next_says (record_at trace.now k) → x ≡ y
 nth-settled trace k x y a b = next-one-to-one x y (a ∙ sym b)

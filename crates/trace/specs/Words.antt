@@ -1,13 +1,10 @@
 -- What the answers on traces say in the scope's numbers and values.
 -- Assumes nothing.
-use Rattle.std.specs.Prelude.{ℕ, List, [], ◌∷◌}
+use Rattle.std.specs.Prelude.{ℕ, List, [], ◌∷◌, Option, Some, None, Ok, Err}
 use Rattle.model.specs.Words.{number_of, named_by}
-use Rattle.trace.specs.declared.Checked.{Checked}
-use Rattle.trace.specs.declared.Checked.TheVariants.{Refused, Fine}
 use Rattle.trace.specs.declared.Record.{Record}
 use Rattle.trace.specs.declared.Record.TheVariants.{Read, Write, Flush, Drop}
-use Rattle.trace.specs.declared.Next.{Next}
-use Rattle.trace.specs.declared.Next.TheVariants.{Record as Found, End}
+use Rattle.trace.specs.Format.{Checked}
 
 pub data TraceSaid : Type 0 where
   -- the refusal's number, and for 8 the record
@@ -16,8 +13,8 @@ pub data TraceSaid : Type 0 where
   fine : List ℕ → TraceSaid
 
 abbrev pub checked_says : Checked → TraceSaid
-checked_says (Refused x) = refused (number_of x) (named_by x)
-checked_says (Fine t) =
+checked_says (Err x) = refused (number_of x) (named_by x)
+checked_says (Ok t) =
     fine (t.distance ∷ t.records ∷ t.frames ∷ t.page_bytes ∷ t.pages ∷ t.read_cost ∷ t.write_cost ∷ [])
 
 -- letter, value and page; nothing where there is no record
@@ -27,6 +24,6 @@ record_says (Write q v) = 87 ∷ v ∷ q ∷ []
 record_says Flush = 70 ∷ 0 ∷ 0 ∷ []
 record_says (Drop q) = 68 ∷ 0 ∷ q ∷ []
 
-abbrev pub next_says : Next → List ℕ
-next_says (Found r) = record_says r
-next_says End = []
+abbrev pub next_says : Option Record → List ℕ
+next_says (Some r) = record_says r
+next_says None = []

@@ -4,7 +4,7 @@ ghost use Rattle.std.specs.Prelude.{◌≡◌};
 ghost use Rattle.trace.specs.Format.{record_at, place_after, first_place};
 ghost use Rattle.trace.specs.Words.{next_says};
 
-use crate::{Next, first_place, place_after, record_at};
+use crate::{Record, first_place, place_after, record_at};
 
 #[derive(Clone, Copy)]
 pub struct Reader<'a> {
@@ -12,33 +12,38 @@ pub struct Reader<'a> {
     pub place: usize,
 }
 
-// A reader at the first record. One of a refused trace yields no record, however often it is moved.
-pub fn new<'a>(trace: &'a [u8]) -> Reader<'a>
-    ensures { (result.trace ≡ trace.entry) × (result.place ≡ first_place trace.now) }
-{
-    let place = first_place(trace);
-    Reader { trace, place }
-}
+impl<'a> Reader<'a> {
+    // A reader at the first record. One of a refused trace yields no record, however often it is moved.
+    pub fn new(trace: &'a [u8]) -> Reader<'a>
+        ensures { (result.trace ≡ trace.entry) × (result.place ≡ first_place trace.now) }
+    {
+        Reader {
+            trace,
+            place: first_place(trace),
+        }
+    }
 
-// The record at the reader's place.
-pub fn next<'a>(r: Reader<'a>) -> Next
-    ensures { next_says result ≡ next_says (record_at r.entry.trace.now r.entry.place) }
-{
-    record_at(r.trace, r.place)
-}
+    // The record at the reader's place.
+    pub fn next(self) -> Option<Record>
+        ensures { next_says result ≡ next_says (record_at self.entry.trace.now self.entry.place) }
+    {
+        record_at(self.trace, self.place)
+    }
 
-// The reader at the next record; where there is none it stays.
-pub fn moved<'a>(r: Reader<'a>) -> Reader<'a>
-    ensures { (result.trace ≡ r.entry.trace) × (result.place ≡ place_after r.entry.trace.now r.entry.place) }
-{
-    let trace = r.trace;
-    let place = place_after(trace, r.place);
-    Reader { trace, place }
+    // The reader at the next record; where there is none it stays.
+    pub fn moved(self) -> Reader<'a>
+        ensures { (result.trace ≡ self.entry.trace) × (result.place ≡ place_after self.entry.trace.now self.entry.place) }
+    {
+        Reader {
+            trace: self.trace,
+            place: place_after(self.trace, self.place),
+        }
+    }
 }
 
 // The record at a place of a plain slice.
-pub fn nth(trace: &[u8], place: usize) -> Next
+pub fn nth(trace: &[u8], place: usize) -> Option<Record>
     ensures { next_says result ≡ next_says (record_at trace.now place) }
 {
-    next(Reader { trace, place })
+    Reader { trace, place }.next()
 }

@@ -4,7 +4,7 @@
 mod change;
 
 use calls::chance::World;
-use calls::{Call, chance, windows};
+use calls::{Call, Request, chance, windows};
 use model::MOST_SERVED;
 use pool::Pool;
 
@@ -12,7 +12,11 @@ use pool::Pool;
 // every call on a changed pool; or random calls with kept numbers.
 #[derive(Clone, Copy)]
 pub enum Plan {
-    Letters(usize, usize, usize),
+    Sequence {
+        letters: usize,
+        number: usize,
+        length: usize,
+    },
     Random,
     Broken,
     Timed,
@@ -31,30 +35,20 @@ pub struct Turn {
 // ---- a sequence
 
 // The digit with which `rest` digits are left, leading zeros too.
-fn digit(n: usize, base: usize, rest: usize) -> usize {
+fn digit(number: usize, base: usize, rest: usize) -> usize {
     if base == 0 {
         return 0;
     }
-    let mut first = n;
-    let mut left = rest;
-    while 1 < left {
-        first /= base;
-        left -= 1;
-    }
-    first % base
+    (1..rest).fold(number, |left, _| left / base) % base
 }
 
-fn letter_kind(letter: usize) -> u8 {
-    if letter < 3 {
-        return b'R';
+fn request_by(letter: usize) -> Request {
+    match letter {
+        0..=2 => Request::Read,
+        3..=5 => Request::Write,
+        6 => Request::Flush,
+        _ => Request::Drop,
     }
-    if letter < 6 {
-        return b'W';
-    }
-    if letter == 6 {
-        return b'F';
-    }
-    b'D'
 }
 
 // The i-th call of a sequence: letters 0 to 2 read that page, 3 to 5 write to one, 6 flushes, 7 to 9 drop pages 1, 2 and 0. Stretches differ from call to
@@ -62,26 +56,23 @@ fn letter_kind(letter: usize) -> u8 {
 fn small_call(world: World, i: usize, letter: usize) -> Call {
     let page = letter % 3;
     Call {
-        letter: letter_kind(letter),
+        request: request_by(letter),
         page,
         start: i % 12 * 5 % 12,
         length: i % 4 + 1,
         value: (i % 16 * 16 + page) as u8,
         frame_bytes: world.frame_bytes,
         store_bytes: world.store_bytes,
-        out_bytes: world.page_bytes,
-        measured: false,
-        kept: costs::fresh(0),
+        out_bytes: world.numbers.page_bytes,
+        kept: None,
     }
 }
 
 // Only what the last call leaves is told.
 fn letter_turn(world: World, pool: Pool, letter: usize, length: usize, rest: usize) -> Turn {
-    let i = std::num::wrapping_sub_usize(length, rest);
-    let call = small_call(world, i, letter);
     Turn {
         pool,
-        call,
+        call: small_call(world, length.wrapping_sub(rest), letter),
         told: rest == 1,
         stays: true,
         seed: 0,
@@ -110,14 +101,14 @@ fn random_turn(world: World, pool: Pool, seed: usize, told: bool, next: usize) -
     }
 }
 
-// The letters of the five calls on a changed pool, by how many of them are left.
-fn letter_with(rest: usize) -> u8 {
+// What the five calls on a changed pool ask for, by how many of them are left.
+fn request_with(rest: usize) -> Request {
     match rest {
-        5 => b'R',
-        4 => b'W',
-        3 => b'F',
-        2 => b'D',
-        _ => b'T',
+        5 => Request::Read,
+        4 => Request::Write,
+        3 => Request::Flush,
+        2 => Request::Drop,
+        _ => Request::Total,
     }
 }
 
@@ -126,18 +117,19 @@ fn changed_turn(world: World, pool: Pool, seed: usize, rest: usize) -> Turn {
     let next = after_change(seed);
     Turn {
         pool: change::changed_pool(pool, seed),
-        call: chance::right_call(world, letter_with(rest), next),
+        call: chance::right_call(world, request_with(rest), next),
         told: true,
         stays: false,
         seed: if rest == 1 { next } else { seed },
     }
 }
 
+// Six turns belong together: a random call, and five on a changed pool.
 fn broken_turn(world: World, pool: Pool, seed: usize, rest: usize) -> Turn {
-    if rest == 0 {
-        return random_turn(world, pool, seed, false, after_call(seed));
+    match rest % 6 {
+        0 => random_turn(world, pool, seed, false, after_call(seed)),
+        left => changed_turn(world, pool, seed, left),
     }
-    changed_turn(world, pool, seed, rest)
 }
 
 // ---- with kept numbers
@@ -146,14 +138,13 @@ fn broken_turn(world: World, pool: Pool, seed: usize, rest: usize) -> Turn {
 const FAR_TARGET: u64 = 4259840;
 
 // A pool that is broken, one that has served all its calls, or mostly the pool as it is.
-fn strained(pool: Pool, chance: usize) -> Pool {
-    let mut new = pool;
+fn strained(mut pool: Pool, chance: usize) -> Pool {
     match chance % 16 {
-        0 => new.target = FAR_TARGET,
-        1 => new.served = MOST_SERVED,
+        0 => pool.target = FAR_TARGET,
+        1 => pool.served = MOST_SERVED,
         _ => {}
     }
-    new
+    pool
 }
 
 // A random call with kept numbers, which take three more numbers of the sequence. What becomes of a pool that was strained for it does not stay.
@@ -171,14 +162,16 @@ fn timed_turn(world: World, pool: Pool, seed: usize) -> Turn {
     }
 }
 
-// The turn with which so many are left. Six turns of a broken run belong together; a random run takes as many numbers of the sequence for one.
+// The turn with which so many are left. A random run takes as many numbers of the sequence for one as a broken run for six.
 pub fn turn_of(plan: Plan, world: World, pool: Pool, seed: usize, rest: usize) -> Turn {
     match plan {
-        Plan::Letters(letters, n, length) => {
-            letter_turn(world, pool, digit(n, letters, rest), length, rest)
-        }
+        Plan::Sequence {
+            letters,
+            number,
+            length,
+        } => letter_turn(world, pool, digit(number, letters, rest), length, rest),
         Plan::Random => random_turn(world, pool, seed, true, after_change(after_call(seed))),
-        Plan::Broken => broken_turn(world, pool, seed, rest % 6),
+        Plan::Broken => broken_turn(world, pool, seed, rest),
         Plan::Timed => timed_turn(world, pool, seed),
     }
 }

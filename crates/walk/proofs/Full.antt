@@ -58,7 +58,7 @@ near-once qs h q l = (fresh-once qs (replicate 1024 0) h q l).0
 -- ---- right pages
 
 pub low-place : (xs : List ℕ) (top : ℕ) → length xs ≡ places → every (is_at_most top) (take places xs) ≡ true → (i : ℕ) → i < places → get_or xs i 0 ≤ top
-low-place xs top l e = (exact-places (is_at_most top) xs places (omega arith) (λ i. exact-leb (get_or xs i 0) top)).means e
+low-place xs top l e = (exact-places (is_at_most top) xs 0 places (omega arith) (λ i. exact-leb (get_or xs i 0) top)).means e
 
 -- what stands at two places counts twice
 count-two : (q : ℕ) (xs : List ℕ) (i j : ℕ) → i < j → j < length xs → get_or xs i 0 ≡ q → get_or xs j 0 ≡ q → 2 ≤ count q xs

@@ -1,6 +1,7 @@
 -- A window whose kept numbers are true of its places stays so. With nothing in it yet, nothing is filled and all is 0. A time that takes the next place fills
 -- the first place that is not filled, or once all are, takes the place of an older time; the next place goes on, round below n, and the sum follows.
 --     window-right, right-window    the test of one window, as facts about its places
+--     right_windows                 those facts, for a tactic
 --     fresh-right                   a window with nothing in it yet is right
 --     place-right                   a window that takes a time is right again
 --     window-in                     what is kept of a right window of 16-bit times is in range
@@ -14,16 +15,17 @@ use native.Mathlib.Nat.{mod-lt, mod-eq_of_lt, mod_self}
 use native.Mathlib.Decide.{dec_lt, ℕ_discrete}
 use native.Mathlib.Omega.{arith}
 use lib.Dec.{eqb, ltb}
-use lib.ListN.{length, get_or, set, drop, replicate, length-set, length-replicate}
+use lib.ListN.{length, get_or, set, replicate, length-set, length-replicate}
 use lib.Seq.{get_or-set_same, get_or-set_other}
-use borrow.Author.Tests.{eqb-true, eq-eqb, ltb-true, ltb-false, lt-ltb, le-ltb}
+use borrow.Author.Tests.{eqb-true, eq-eqb, leb-true, le-leb, ltb-true, ltb-false, lt-ltb, le-ltb}
 use Rattle.model.specs.Times.{most_time, fresh_window}
 use Rattle.model.specs.declared.Window.{Window}
 use Rattle.model.proofs.Times.{WindowIn}
+use Rattle.model.proofs.Refusals.{and-both}
+use Rattle.model.proofs.Limits.{both-and}
 use Rattle.window.specs.Window.{sum_of, next_right, window_right, place_after, window_after}
-use Rattle.window.proofs.Sums.{sum-least, all_zero-sum}
-use Rattle.window.proofs.Windows.{right-tested, tested-right}
-use Rattle.window.proofs.Places.{none_zero-means, means-none_zero, all_zero-means, means-all_zero, sum-set, sum-low, sum-high, zeros-zero, zeros-sum}
+use Rattle.window.proofs.Sums.{sum-least}
+use Rattle.window.proofs.Places.{none_zero-means, means-none_zero, all_zero-means, means-all_zero, sum-set, sum-low, sum-high, sum-most, zeros-zero, zeros-sum}
 
 -- ---- the test of a window, as facts about its places
 
@@ -52,30 +54,36 @@ module _ (n : ℕ) (w : Window) where
 
 module _ (n : ℕ) (w : Window) (ts : List ℕ) where
   pub window-right : window_right n w ts ≡ true → RightWindow n w ts
+  unfolding window_right
   window-right e =
-      let t = right-tested n w ts e in
-      let next = next_right-means n w t.next in
+      let a = and-both _ _ e in
+      let b = and-both _ _ a.1 in
+      let c = and-both _ _ b.1 in
+      let d = and-both _ _ c.1 in
+      let places = and-both _ _ d.0 in
+      let long = eqb-true (length ts) n a.0 in
+      let fill = leb-true w.fill n b.0 in
+      let next = next_right-means n w c.0 in
       record {
-        long = t.long;
-        fill = t.fill;
+        long = long;
+        fill = fill;
         next = next.0;
         going = next.1;
-        filled = none_zero-means w.fill ts (omega (arith, t.long, t.fill)) t.filled;
-        rest = all_zero-means w.fill ts (all_zero-sum (drop w.fill ts) ∙ eq-eqb _ 0 t.rest);
-        sum = t.sum;
+        filled = none_zero-means w.fill ts (omega (arith, long, fill)) places.0;
+        rest = all_zero-means w.fill ts places.1;
+        sum = eqb-true w.sum (sum_of ts) d.1;
       }
 
   pub right-window : RightWindow n w ts → window_right n w ts ≡ true
+  unfolding window_right
   right-window h =
-      tested-right n w ts
-      (record {
-        long = h.long;
-        fill = h.fill;
-        next = means-next_right n w h.next h.going;
-        filled = means-none_zero w.fill ts h.filled;
-        rest = eqb-true _ 0 (sym (all_zero-sum (drop w.fill ts)) ∙ means-all_zero w.fill ts h.rest);
-        sum = h.sum;
-      })
+      let places = both-and (means-none_zero w.fill ts h.filled) (means-all_zero w.fill ts h.rest) in
+      let next = means-next_right n w h.next h.going in
+      both-and (eq-eqb _ _ h.long) (both-and (le-leb _ _ h.fill) (both-and next (both-and places (eq-eqb _ _ h.sum))))
+
+-- what the tactics of `place` are to know of a right window: its next place is one of its places, what stands there is part of the sum, and no sum of so many
+-- times is near 2 ^ 64
+pub ruleset right_windows = (window-right, sum-least, sum-most)
 
 -- ---- with nothing in it yet
 

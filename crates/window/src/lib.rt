@@ -21,11 +21,7 @@ struct Tally {
 pub fn clear(times: &mut [u16])
     ensures { times.new ≡ replicate (length times.old) 0 }
 {
-    let mut i = 0;
-    while i < times.len() {
-        times[i] = 0;
-        i += 1;
-    }
+    times.fill(0);
 }
 
 // One look through times, in vector code: nothing leads out of the loop, and no number in it has more than 32 bits. The sum fits, since there are no more
@@ -36,12 +32,10 @@ fn tally_of(times: &[u16]) -> Tally
 {
     let mut sum: u32 = 0;
     let mut marks: u32 = MARK;
-    let mut i = 0;
-    while i < times.len() {
-        let time = times[i] as u32;
+    for &time in times {
+        let time = u32::from(time);
         sum += time;
         marks &= time + 65535;
-        i += 1;
     }
     Tally {
         sum,
@@ -54,9 +48,10 @@ fn next_right(n: usize, window: Window) -> bool
     ensures { result ≡ next_right n window }
 {
     if window.fill < n {
-        return window.next == window.fill;
+        window.next == window.fill
+    } else {
+        window.next < n
     }
-    window.next < n
 }
 
 // Whether what is kept of a window of n times is true of its places.
@@ -64,25 +59,12 @@ pub fn right(n: usize, window: Window, times: &[u16]) -> bool
     requires { n ≤ most_times }
     ensures { result ≡ window_right n window times.now }
 {
-    let fill = window.fill;
-    if times.len() != n {
+    if times.len() != n || n < window.fill || !next_right(n, window) {
         return false;
     }
-    if n < fill {
-        return false;
-    }
-    if !next_right(n, window) {
-        return false;
-    }
-    let filled = tally_of(&times[0..fill]);
-    if !filled.none_zero {
-        return false;
-    }
-    let rest = tally_of(&times[fill..n]);
-    if rest.sum != 0 {
-        return false;
-    }
-    window.sum == filled.sum as u64
+    let (filled, rest) = times.split_at(window.fill);
+    let filled = tally_of(filled);
+    filled.none_zero && tally_of(rest).sum == 0 && window.sum == u64::from(filled.sum)
 }
 
 // The place behind the given one, round below n.
@@ -95,17 +77,18 @@ fn place_after(n: usize, at: usize) -> usize
 }
 
 // A time takes the next place of a window of n times whose kept numbers are true; what stood there is taken off the sum.
+#[tactic(auto, using(crate::proofs::Stays::right_windows), unfolding(crate::specs::Window::window_after))]
 pub fn place(n: usize, window: Window, times: &mut [u16], time: u16) -> Window
     requires { (n ≤ most_times) × (window_right n window times.old ≡ true) }
     ensures value { result ≡ window_after n window times.old time }
     ensures times_after { times.new ≡ set times.old window.next time }
 {
     let at = window.next;
-    let replaced = times[at] as u64;
+    let sum = window.sum - u64::from(times[at]) + u64::from(time);
     times[at] = time;
-    let others = window.sum - replaced;
-    let sum = others + time as u64;
-    let fill = if window.fill < n { window.fill + 1 } else { n };
-    let next = place_after(n, at);
-    Window { fill, next, sum }
+    Window {
+        fill: (window.fill + 1).min(n),
+        next: place_after(n, at),
+        sum,
+    }
 }

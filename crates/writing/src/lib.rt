@@ -13,8 +13,7 @@ fn put_number(buffer: &mut [u8], at: usize, width: usize, x: usize)
     requires { at + width ≤ length buffer.old }
     ensures { buffer.new ≡ splice at (bytes_of width x) buffer.old }
 {
-    let end = at + width;
-    little::put(&mut buffer[at..end], x as u64);
+    little::put(&mut buffer[at..at + width], x as u64);
 }
 
 fn put_parts(buffer: &mut [u8], at: usize, letter: u8, value: u8, page: usize)

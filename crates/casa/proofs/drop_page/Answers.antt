@@ -16,23 +16,23 @@ call c = drop c.args.page
 
 told : (c : After-request_verdict-verdict) → c.request_verdict-verdict.result ≡ verdict_of pools (world c) (call c)
 told c =
-    drop-verdict (world c) c.request_verdict-verdict.result c.sound-sound.result c.sound-sound.ensures c.args.page c.request_verdict-verdict.ensures
+    drop-verdict (world c) c.request_verdict-verdict.result c.is_sound-sound.result c.is_sound-sound.ensures c.args.page c.request_verdict-verdict.ensures
 
 pub request_verdict-verdict-requires : goal.request_verdict-verdict-requires
-request_verdict-verdict-requires c e = sound-sizes _ (sym c.sound-sound.ensures ∙ e)
+request_verdict-verdict-requires c e = sound-sizes _ (sym c.is_sound-sound.ensures ∙ e)
 
-pub drop-next-requires : goal.drop-next-requires
-drop-next-requires c =
-    let ok = drop-ready pools (world (goal.at.drop-next-requires c).After-request_verdict-verdict) c.args.page
-    (sym (told (goal.at.drop-next-requires c).After-request_verdict-verdict) ∙ c.in-Fine.is) in
+pub drop-requires : goal.drop-requires
+drop-requires c =
+    let ok = drop-ready pools (world (goal.at.drop-requires c).After-request_verdict-verdict) c.args.page
+    (sym (told (goal.at.drop-requires c).After-request_verdict-verdict) ∙ c.in-Ok.is) in
     record { sound = sound-is _ ok.0; ready = (ok.1, ok.2) }
 
-pub returns-in-Refused : goal.returns-in-Refused
-returns-in-Refused c = call-refused (world (goal.at.returns-in-Refused c).After-request_verdict-verdict)
-    (call (goal.at.returns-in-Refused c).After-request_verdict-verdict) _ (told (goal.at.returns-in-Refused c).After-request_verdict-verdict) _ c.in-Refused.is
+pub returns-in-Err : goal.returns-in-Err
+returns-in-Err c = call-refused (world (goal.at.returns-in-Err c).After-request_verdict-verdict)
+    (call (goal.at.returns-in-Err c).After-request_verdict-verdict) _ (told (goal.at.returns-in-Err c).After-request_verdict-verdict) _ c.in-Err.is
 
-pub returns-in-Fine : goal.returns-in-Fine
-returns-in-Fine c =
-    let told-fine = c.in-Fine.is in
-    c.drop-next.ensures ∙ call-served (world (goal.at.returns-in-Fine c).After-request_verdict-verdict)
-    (call (goal.at.returns-in-Fine c).After-request_verdict-verdict) _ (told (goal.at.returns-in-Fine c).After-request_verdict-verdict) told-fine
+pub returns-in-Ok : goal.returns-in-Ok
+returns-in-Ok c =
+    let told-fine = c.in-Ok.is in
+    c.drop.ensures ∙ call-served (world (goal.at.returns-in-Ok c).After-request_verdict-verdict)
+    (call (goal.at.returns-in-Ok c).After-request_verdict-verdict) _ (told (goal.at.returns-in-Ok c).After-request_verdict-verdict) told-fine

@@ -19,25 +19,25 @@ told : (c : After-request_verdict-verdict) → c.request_verdict-verdict.result 
 told c =
     let a = c.args in
     let timed = c.kept_fits-timed in
-    let sound = c.sound-sound in
+    let sound = c.is_sound-sound in
     read-verdict (world c) c.request_verdict-verdict.result sound.result sound.ensures (measured a.kept) timed.result a.page a.out.now
     c.request_verdict-verdict.ensures timed.ensures
 
 pub request_verdict-verdict-requires : goal.request_verdict-verdict-requires
-request_verdict-verdict-requires c e = sound-sizes _ (sym c.sound-sound.ensures ∙ e)
+request_verdict-verdict-requires c e = sound-sizes _ (sym c.is_sound-sound.ensures ∙ e)
 
 pub read-read-requires : goal.read-read-requires
 read-read-requires c =
     let a = c.args in
     let ok = read-clear pools (world (goal.at.read-read-requires c).After-request_verdict-verdict) (measured a.kept) a.page a.out.now
-    (sym (told (goal.at.read-read-requires c).After-request_verdict-verdict) ∙ c.in-Fine.is) in
+    (sym (told (goal.at.read-read-requires c).After-request_verdict-verdict) ∙ c.in-Ok.is) in
     record { sound = (sound-is _ ok.0, ok.4); ready = (ok.1, ok.2); out_len = eqb-true _ _ ok.3 }
 
-pub returns-in-Refused : goal.returns-in-Refused
-returns-in-Refused c = call-refused (world (goal.at.returns-in-Refused c).After-request_verdict-verdict)
-    (call (goal.at.returns-in-Refused c).After-request_verdict-verdict) _ (told (goal.at.returns-in-Refused c).After-request_verdict-verdict) _ c.in-Refused.is
+pub returns-in-Err : goal.returns-in-Err
+returns-in-Err c = call-refused (world (goal.at.returns-in-Err c).After-request_verdict-verdict)
+    (call (goal.at.returns-in-Err c).After-request_verdict-verdict) _ (told (goal.at.returns-in-Err c).After-request_verdict-verdict) _ c.in-Err.is
 
-pub returns-in-Fine : goal.returns-in-Fine
-returns-in-Fine c =
-    c.read-read.ensures ∙ call-served (world (goal.at.returns-in-Fine c).After-request_verdict-verdict)
-    (call (goal.at.returns-in-Fine c).After-request_verdict-verdict) _ (told (goal.at.returns-in-Fine c).After-request_verdict-verdict) c.in-Fine.is
+pub returns-in-Ok : goal.returns-in-Ok
+returns-in-Ok c =
+    c.read-read.ensures ∙ call-served (world (goal.at.returns-in-Ok c).After-request_verdict-verdict)
+    (call (goal.at.returns-in-Ok c).After-request_verdict-verdict) _ (told (goal.at.returns-in-Ok c).After-request_verdict-verdict) c.in-Ok.is

@@ -1,21 +1,21 @@
 -- `cut::clean` meets its contract. C is held by its places without the frame, which leaves room for it in E. Assumes nothing.
-use Rattle.std.proofs.Common.{arith, rules}
-use Rattle.order.proofs.Places.{in-places-get_or, remove-in-places}
+use Rattle.std.proofs.Common.{◌∙◌}
+use Rattle.order.proofs.Places.{in-places-get_or, remove-in-places, as-promised}
 use Rattle.pool.proofs.Form.{clean-in-places, dirty-in-places, clean-frame}
 use Rattle.cut.proofs.Drops.{room-by-clean}
 use Rattle.cut.proofs.clean.Goals as goal
 
-pub bounds-clean-at : goal.bounds-clean-at
-bounds-clean-at c = omega (arith, (clean-in-places _ c.requires.sound).fits)
-
-pub take_out-requires : goal.take_out-requires
-take_out-requires c = record { list_len = search rules; at_le_last = omega (arith, (clean-in-places _ c.requires.sound).fits) }
+pub take_out-frame-requires : goal.take_out-frame-requires
+take_out-frame-requires c = (c.requires.inside, (clean-in-places _ c.requires.sound).fits)
 
 pub vacate-requires : goal.vacate-requires
-vacate-requires c = let u = c.requires in record { sound = u.sound; frame_lt_frames = (clean-frame _ u.sound _ u.at_bound, room-by-clean _ u.sound u.at_bound) }
+vacate-requires c =
+    let u = c.requires in
+    record { sound = u.sound; room = (rw c.take_out-frame.ensures.frame (clean-frame _ u.sound _ u.inside), room-by-clean _ u.sound u.inside) }
 
 pub returns : goal.returns
 returns c =
     let u = c.requires in
     let h = clean-in-places _ u.sound in
-    c.vacate.ensures _ _ _ (rw (← c.take_out.ensures) at (remove-in-places h _ u.at_bound)) (dirty-in-places _ u.sound) (in-places-get_or h _ u.at_bound)
+    let t = c.take_out-frame.ensures in
+    c.vacate.ensures _ _ _ (as-promised t.rest (remove-in-places h _ u.inside)) (dirty-in-places _ u.sound) (t.frame ∙ in-places-get_or h _ u.inside)

@@ -7,7 +7,7 @@ use Rattle.fine.proofs.drop.Goals as goal
 pub wipe-requires : goal.wipe-requires
 wipe-requires c =
     let a = c.args in
-    page-in a.pool.page_bytes a.page a.pool.pages (length a.store.now) c.requires.ready.0.store c.requires.ready.1
+    page-in a.pool.numbers.page_bytes a.page a.pool.numbers.pages (length a.store.now) c.requires.ready.0.store c.requires.ready.1
 
 pub returns : goal.returns
 returns c =

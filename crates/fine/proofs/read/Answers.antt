@@ -1,13 +1,13 @@
 -- `fine::read` meets its contract: the costs in force can be reckoned with, so the step is that of the definitions; its frame, page and victim lie within
 -- the lent bytes, since the state is good; the bytes after the step are those of the definitions, and the frame is copied out. Assumes nothing.
-use Rattle.std.proofs.Common.{◌≡◌, arith}
+use Rattle.std.proofs.Common.{◌≡◌, ◌∙◌, ap, arith}
 use Rattle.model.specs.Target.{Costs, costs_of}
 use Rattle.model.specs.Times.{measured, in_force}
 use Rattle.model.specs.Request.{request}
 use Rattle.model.specs.declared.Op.TheVariants.{Read}
 use Rattle.pool.specs.Pool.{numbers_in, state_of}
 use Rattle.step.specs.Step.{step_of}
-use Rattle.fine.proofs.Serving.{found-payable, step-in-force, frame-in, bring-in, read-served}
+use Rattle.fine.proofs.Serving.{frame-in, bring-in, read-served}
 use Rattle.fine.proofs.read.Goals as goal
 use Rattle.fine.proofs.read.Goals.{After-read-read}
 
@@ -16,13 +16,10 @@ in-force c = let a = c.args in in_force (measured a.kept) (costs_of (numbers_in 
 
 stepped : (c : After-read-read) → c.read-read.result ≡ step_of (request Read (in-force c) (state_of c.args.pool) c.args.page)
 stepped c =
-    step-in-force c.args.pool c.requires.sound.0 c.args.kept c.requires.sound.1 _ _ c.in_force-read_cost.ensures c.in_force-write_cost.ensures
-    Read c.args.page _ c.read-read.ensures
+    c.read-read.ensures ∙ ap (λ (k : Costs). step_of (request Read k (state_of c.args.pool) c.args.page)) c.drive-drive.ensures
 
 pub read-read-requires : goal.read-read-requires
-read-read-requires c =
-    let k = found-payable c.args.pool c.requires.sound.0 c.args.kept c.requires.sound.1 _ _ c.in_force-read_cost.ensures c.in_force-write_cost.ensures in
-    record { sound = c.requires.sound.0; page_lt_pages = (c.requires.ready.1, k.r_low, k.r_high, k.w_high) }
+read-read-requires c = record { sound = c.requires.sound.0; page_lt_pages = c.requires.ready.1 }
 
 pub bring-requires : goal.bring-requires
 bring-requires c =

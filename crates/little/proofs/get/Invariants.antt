@@ -1,11 +1,12 @@
--- `little::get` meets its contract. The loop goes from the last byte to the first; its invariant: `r` is the number that the bytes from `i` on
--- spell. Of at most 8 bytes fewer than 8 are passed while one is left, so `r * 256` and a byte more fit. The measure is `i`. Assumes nothing.
-use Rattle.std.proofs.Common.{◌≡◌, ◌≤◌, length, drop}
+-- `little::get` meets its contract. The loop goes from the last byte to the first; its invariant: the number of the bytes that are left, and above them
+-- `r`, are the number of all. So `r` never exceeds the number of all, which 8 bytes at most spell; and at the end `r` is that number. Assumes nothing.
+use Rattle.std.proofs.Common.{◌≡◌, ◌+◌, ◌*◌, ◌^◌, length}
+use Rattle.std.specs.Slice.Iter.{iter_rest}
+use Rattle.std.specs.Iterator.Adapters.{rev_source}
 use Rattle.little.specs.Little.{number_of}
 use Rattle.little.proofs.get.Given as goal
 
-abbrev pub invariant-loop-i : goal.invariant-loop-i
-invariant-loop-i l = (l.i ≤ length l.bytes) × (l.r ≡ number_of (drop l.i l.bytes))
-
-abbrev pub decreases-loop-i : goal.decreases-loop-i
-decreases-loop-i l = l.i
+abbrev pub invariant-loop-b : goal.invariant-loop-b
+invariant-loop-b l =
+    let left = iter_rest (rev_source l.b-iterator) in
+    number_of left + 256 ^ length left * l.r ≡ number_of l.bytes

@@ -1,20 +1,14 @@
 -- The answers of `little::put`, by the invariant that is argued in Invariants. Assumes nothing.
-use Rattle.std.proofs.Common.{refl, arith, length-set, rules}
-use Rattle.little.proofs.Turns.{put-start, put-turn, put-end}
+use Rattle.std.proofs.Common.{arith}
+use Rattle.little.proofs.Turns.{put-turn, put-end}
 use Rattle.little.proofs.put.Goals as goal
 
-pub loop-i-init : goal.loop-i-init
-loop-i-init c = (search rules, refl, put-start c.args.out.now _ _)
-
-pub loop-i-preserved : goal.loop-i-preserved
-loop-i-preserved c =
-    let l = c.loop-i in (
-      omega arith,
-      simp length-set l.invariant.1,
-      put-turn l.out _ _ l.i l.rest (omega arith) l.invariant.1 l.invariant.2,
-    )
+pub loop-b-preserved : goal.loop-b-preserved
+loop-b-preserved c =
+    let l = c.loop-b in
+    put-turn l.out _ _ l.b-index l.rest (omega arith) (omega arith) l.invariant
 
 pub returns : goal.returns
 returns c =
-    let l = c.loop-i in
-    put-end l.out _ _ l.i l.rest (omega arith) l.invariant.1 l.invariant.2
+    let l = c.loop-b in
+    put-end l.out _ _ l.b-index l.rest (omega arith) (omega arith) l.invariant

@@ -1,33 +1,34 @@
 -- The answers of `merging::merge`, by the invariant that is argued in Invariants. Assumes nothing.
-use Rattle.std.proofs.Common.{refl, sym, ◌∙◌, arith, rules}
+use Rattle.std.proofs.Common.{refl, sym, ◌∙◌, [], arith}
 use Rattle.order.proofs.Places.{none-in-places}
-use Rattle.order.proofs.Merged.{merging-first, merging-second, merging-end}
+use Rattle.merging.proofs.Merging.{merging-first, merging-second, merging-end}
 use Rattle.merging.proofs.merge.Goals as goal
+use Rattle.merging.proofs.merge.Goals.{then-takes_first, else-takes_first}
 
-pub loop-of_first-init : goal.loop-of_first-init
-loop-of_first-init c = record { inside_first = search rules; inside_second = search rules; there = none-in-places; left = refl }
-
-pub takes_first-requires : goal.takes_first-requires
-takes_first-requires c =
+pub loop-init : goal.loop-init
+loop-init c =
     record {
-      m_le_places = (omega (arith, c.requires.n_bound), omega (arith, c.requires.n_bound), search rules, search rules);
-      by_index = c.requires.by_index;
-      by_index_2 = c.requires.by_index_2;
+      first_in_places = c.requires.first_in_places;
+      second_in_places = c.requires.second_in_places;
+      count = omega arith;
+      len = refl;
+      taken = [];
+      holds = none-in-places;
+      there = refl;
     }
 
-pub loop-of_first-preserved-then-takes_first : goal.loop-of_first-preserved-then-takes_first
-loop-of_first-preserved-then-takes_first c =
-    let a = c.args in
-    merging-first a.reference a.first a.m a.second a.n (search rules) (search rules) c.requires.n_bound c.loop-of_first.invariant (search rules)
-    (sym c.takes_first.ensures ∙ c.if-takes_first.true)
-
-pub loop-of_first-preserved : goal.loop-of_first-preserved
-loop-of_first-preserved c =
-    let a = c.args in
-    merging-second a.reference a.first a.m a.second a.n (search rules) (search rules) c.requires.n_bound c.loop-of_first.invariant (search rules)
-    (sym c.takes_first.ensures ∙ c.if-takes_first.false)
+pub loop-preserved : goal.loop-preserved
+loop-preserved c =
+    let l = c.loop.invariant in
+    let n = c.requires.fits in
+    let at = c.loop-test.true in
+    elim c.if-takes_first.branch [
+      | then-takes_first w ↦
+          rw (w.list-is, w.first-is, w.second-is, w.push.ensures) (merging-first _ _ _ l at n (sym c.takes_first.ensures ∙ w.if-takes_first.true))
+      | else-takes_first w ↦
+          rw (w.list-is, w.first-is, w.second-is, w.push-else-takes_first.ensures)
+          (merging-second _ _ _ l at n (sym c.takes_first.ensures ∙ w.if-takes_first.false))
+    ]
 
 pub returns : goal.returns
-returns c =
-    let a = c.args in
-    merging-end a.reference a.first a.m a.second a.n (search rules) (search rules) c.requires.n_bound c.loop-of_first.invariant (search rules)
+returns c = merging-end _ _ _ c.loop.invariant (omega arith)

@@ -1,11 +1,8 @@
--- `order::stands_before` meets its contract. The loop's invariant: the flag says whether the page stands before place `k`. The measure is how many
--- places are left. Assumes nothing.
-use Rattle.std.proofs.Common.{◌≡◌, ◌-◌, ◌≤◌}
+-- `order::stands_before` meets its contract. The loop's invariant: what was found is whether the page stands before the place that is reached.
+-- Assumes nothing.
+use Rattle.std.proofs.Common.{◌≡◌}
 use Rattle.order.specs.Find.{has_before}
 use Rattle.order.proofs.stands_before.Given as goal
 
-abbrev pub invariant-loop-k : goal.invariant-loop-k
-invariant-loop-k l = (l.k ≤ l.end) × (l.found ≡ has_before l.page l.k l.q)
-
-abbrev pub decreases-loop-k : goal.decreases-loop-k
-decreases-loop-k l = l.end - l.k
+abbrev pub invariant-loop-p : goal.invariant-loop-p
+invariant-loop-p l = l.found ≡ has_before l.page l.p-index l.q

@@ -5,4 +5,4 @@ use Rattle.pages.proofs.Pages.{part-back}
 use Rattle.pages.proofs.overlay.Goals as goal
 
 pub returns : goal.returns
-returns c = rw c.copy_page.ensures (part-back _ _ _ _ refl)
+returns c = rw c.copy_from_slice.ensures.after (part-back _ _ _ _ refl)

@@ -5,4 +5,4 @@ use Rattle.pages.proofs.Pages.{page-back}
 use Rattle.pages.proofs.write_back.Goals as goal
 
 pub returns : goal.returns
-returns c = rw c.copy_page.ensures (page-back _ _ _ _ (search rules))
+returns c = rw c.copy_from_slice.ensures.after (page-back _ _ _ _ (search rules))

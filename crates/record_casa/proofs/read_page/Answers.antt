@@ -2,7 +2,7 @@
 use Rattle.std.proofs.Common.{ap, ◌∙◌}
 use Rattle.model.specs.Times.{unmeasured}
 use Rattle.model.specs.Run as run
-use Rattle.model.specs.declared.Verdict.{Verdict}
+use Rattle.model.specs.Words.{Verdict}
 use Rattle.trace.specs.declared.Record.TheVariants.{Read}
 use Rattle.recorder.specs.Runs.{tape, recorded_by}
 use Rattle.record_casa.proofs.Laws.{answer-verdict-is}
@@ -11,7 +11,7 @@ use Rattle.record_casa.proofs.read_page.Goals as goal
 pub returns : goal.returns
 returns c =
     let a = c.args in
-    let e = c.read_page-served.ensures in
+    let e = c.read_page-done.ensures in
     let call = run.read unmeasured a.page a.out.now in
-    let v = answer-verdict-is a.pool a.frames.now a.store.now call c.read_page-served.result _ _ _ e in
+    let v = answer-verdict-is a.pool a.frames.now a.store.now call c.read_page-done.result _ _ _ e in
     record { out_after = e; buffer_after = c.add_served-recorded.ensures ∙ ap (λ (w : Verdict). recorded_by w (Read a.page) (tape a.recorder a.buffer.now)) v }

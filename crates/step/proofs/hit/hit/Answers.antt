@@ -5,25 +5,25 @@ use Rattle.order.specs.Places.{places}
 use Rattle.model.specs.Numbers.{most_served}
 use Rattle.step.proofs.Hits.{hit-is}
 use Rattle.step.proofs.hit.hit.Goals as goal
-use Rattle.step.proofs.hit.hit.Goals.{After-struct_known-1}
+use Rattle.step.proofs.hit.hit.Goals.{Start}
 
 -- the number is one of 32 bits, and the frame has a place
-small : (c : After-struct_known-1) → (c.args.pool.served ≤ most_served) × (c.args.frame < places)
+small : (c : Start) → (c.args.pool.served ≤ most_served) × (c.args.frame < places)
 small c =
     let p = c.requires in
     (p.sound.good.counts.served_high, omega (arith, p.frame_lt_frames, p.sound.good.limits.b_high))
 
-pub overflow_add-call : goal.overflow_add-call
-overflow_add-call c = omega (arith, (small (goal.at.overflow_add-call c).After-struct_known-1).0)
+pub overflow_add-next : goal.overflow_add-next
+overflow_add-next c = omega (arith, (small (goal.at.overflow_add-next c).Start).0)
 
-pub overflow_cast-reference : goal.overflow_cast-reference
-overflow_cast-reference c = omega (arith, (small (goal.at.overflow_cast-reference c).After-struct_known-1).0)
+pub overflow_cast-next : goal.overflow_cast-next
+overflow_cast-next c = omega (arith, (small (goal.at.overflow_cast-next c).Start).0)
 
-pub offset_bounds-reference-f : goal.offset_bounds-reference-f
-offset_bounds-reference-f c = omega (arith, (small (goal.at.offset_bounds-reference-f c).After-struct_known-1).1)
+pub offset_bounds-next-f : goal.offset_bounds-next-f
+offset_bounds-next-f c = omega (arith, (small (goal.at.offset_bounds-next-f c).Start).1)
 
-pub bounds-reference-f : goal.bounds-reference-f
-bounds-reference-f c = (small (goal.at.bounds-reference-f c).After-struct_known-1).1
+pub bounds-next-f : goal.bounds-next-f
+bounds-next-f c = (small (goal.at.bounds-next-f c).Start).1
 
 pub returns : goal.returns
 returns c = let p = c.requires in λ C D τ f. hit-is _ p.sound p.frame_lt_frames

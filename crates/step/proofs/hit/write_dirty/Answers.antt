@@ -12,11 +12,10 @@ use Rattle.step.proofs.hit.write_dirty.Goals as goal
 pub lower-target-requires : goal.lower-target-requires
 lower-target-requires c =
     let s = c.requires.sound in
-    let k = c.requires.at_bound in
-    (k.1, k.2, k.3, (clean-in-places _ s).fits, omega (arith, k.0), (dirty-in-places _ s).fits)
+    ((clean-in-places _ s).fits, omega (arith, c.requires.inside), (dirty-in-places _ s).fits)
 
 pub returns : goal.returns
 returns c =
     let a = c.args in
-    let t = target-is _ c.requires.sound (down (costs a.read_cost a.write_cost)) c.lower-target.ensures in
+    let t = target-is _ c.requires.sound (down (costs a.drive.read a.drive.write)) c.lower-target.ensures in
     c.in_dirty.ensures ∙ (λ i. step_of (read_dirty (with_target (t i) (state_of a.pool)) a.at))
