@@ -1,6 +1,6 @@
 // Loads for the recorder's calls. One loop serves all of them: any request may begin the trace anew, so that the compiler cannot tell that the numbers stay
 // what they are, and each call tests them.
-use model::Refusal;
+use model::{Numbers, Refusal};
 use recorder::{Recorded, Recorder};
 use trace::Record;
 
@@ -34,15 +34,7 @@ fn told(recorded: Recorded) -> (Recorder, u64) {
 // record.
 fn serve(recorder: Recorder, request: u32, notes: &[u8], buffer: &mut [u8]) -> (Recorder, u64) {
     match (request % 256) as u8 {
-        0 => told(recorder::begin(
-            recorder.frames,
-            recorder.page_bytes,
-            recorder.pages,
-            recorder.read_cost,
-            recorder.write_cost,
-            notes,
-            buffer,
-        )),
+        0 => told(recorder::begin(recorder.numbers, notes, buffer)),
         1 => (recorder, said(recorder::close(recorder, buffer))),
         op => {
             let what = record_by(op, (request / 256) as usize);
@@ -65,12 +57,15 @@ pub extern "C" fn bench_record(
     notes: &[u8],
     buffer: &mut [u8],
 ) -> u64 {
-    let mut recorder = Recorder {
+    let numbers = Numbers {
         frames,
         page_bytes,
         pages,
-        read_cost,
-        write_cost,
+        read_cost: read_cost as u64,
+        write_cost: write_cost as u64,
+    };
+    let mut recorder = Recorder {
+        numbers,
         start,
         records,
     };

@@ -5,7 +5,7 @@
 ghost use Rattle.std.specs.Prelude.{◌≤◌};
 
 use calls::chance;
-use model::{Access, Refusal};
+use model::{Access, Numbers, Refusal};
 use recorder::{Recorded, Recorder};
 use std::io;
 use trace::{Record, reader};
@@ -14,11 +14,13 @@ use trace::{Record, reader};
 
 // It has two records behind three bytes of notes.
 const RIGHT: Recorder = Recorder {
-    frames: 2,
-    page_bytes: 16,
-    pages: 8,
-    read_cost: 1,
-    write_cost: 3,
+    numbers: Numbers {
+        frames: 2,
+        page_bytes: 16,
+        pages: 8,
+        read_cost: 1,
+        write_cost: 3,
+    },
     start: 3,
     records: 2,
 };
@@ -47,16 +49,16 @@ fn edge(chance: usize) -> usize {
 fn changed(mut recorder: Recorder, chance: usize) -> Recorder {
     let number = edge(chance / 10);
     match chance % 10 {
-        0 => recorder.frames = number,
-        1 => recorder.page_bytes = number,
-        2 => recorder.pages = 65535 + chance / 10 % 3,
-        3 => recorder.read_cost = number,
-        4 => recorder.write_cost = number,
+        0 => recorder.numbers.frames = number,
+        1 => recorder.numbers.page_bytes = number,
+        2 => recorder.numbers.pages = 65535 + chance / 10 % 3,
+        3 => recorder.numbers.read_cost = number as u64,
+        4 => recorder.numbers.write_cost = number as u64,
         5 => recorder.start = number,
         6 => recorder.records = (number % 4294967296) as u32,
         7 => {
-            recorder.read_cost = 0;
-            recorder.write_cost = 0;
+            recorder.numbers.read_cost = 0;
+            recorder.numbers.write_cost = 0;
         }
         _ => {}
     }
@@ -105,15 +107,7 @@ fn add_by(recorder: Recorder, what: Record, chance: usize, buffer: &mut [u8]) ->
 fn copy(trace: &[u8], buffer: &mut [u8]) -> Result<usize, Refusal> {
     let trailer = trace::check(trace)?;
     let start = trace.len().saturating_sub(trailer.distance);
-    let begun = recorder::begin(
-        trailer.frames,
-        trailer.page_bytes,
-        trailer.pages,
-        trailer.read_cost,
-        trailer.write_cost,
-        &trace[..start],
-        buffer,
-    );
+    let begun = recorder::begin(trailer.numbers, &trace[..start], buffer);
     let mut recorder = begun.recorder;
     for what in (0..trailer.records).filter_map(|place| reader::nth(trace, place)) {
         recorder = recorder::add(recorder, what, buffer).recorder;
@@ -149,12 +143,13 @@ fn absorb_closed(digest: u32, answer: Result<usize, Refusal>, buffer: &[u8]) -> 
 fn absorb_recorded(digest: u32, recorded: Recorded, buffer: &[u8]) -> u32 {
     let with_answer = absorb_answer(digest, recorded.answer.map(|()| 0));
     let recorder = recorded.recorder;
+    let held = recorder.numbers;
     let numbers = [
-        recorder.frames as u64,
-        recorder.page_bytes as u64,
-        recorder.pages as u64,
-        recorder.read_cost as u64,
-        recorder.write_cost as u64,
+        held.frames as u64,
+        held.page_bytes as u64,
+        held.pages as u64,
+        held.read_cost,
+        held.write_cost,
         recorder.start as u64,
         u64::from(recorder.records),
     ];
@@ -192,11 +187,7 @@ fn try_by_hand(digest: u32, recorder: Recorder, chance: usize) -> u32 {
 fn try_begun(digest: u32, recorder: Recorder, chance: usize) -> u32 {
     let mut buffer = [170; BUFFER];
     let begun = recorder::begin(
-        recorder.frames,
-        recorder.page_bytes,
-        recorder.pages,
-        recorder.read_cost,
-        recorder.write_cost,
+        recorder.numbers,
         b"notes",
         &mut buffer[..room_by(chance / 128)],
     );

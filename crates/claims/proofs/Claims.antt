@@ -113,7 +113,7 @@ module _ (s : List ℕ) (y : Refusal) where
 
 -- over other bytes a reader finds at each place the record that its four bytes spell, and none where 8 refuses it
 pub demand-1-record : (s : List ℕ) (t : Trailer) → header_of s ≡ Ok t → (place : ℕ) → place < t.records
-    → record_at s place ≡ record_in s (start_of s t place) t.pages
+    → record_at s place ≡ record_in s (start_of s t place) t.numbers.pages
 demand-1-record = record_at-in
 
 -- a trace that is not refused opens a pool with the numbers on which it was recorded: of costs 0, 0 those of the stored files, not the usual drive's

@@ -230,9 +230,10 @@ fn tell_trace(rt: &impl Print, bytes: &[u8]) -> io::Result<()> {
     print!(rt; "trace of {} ", bytes.len())?;
     match trace::check(bytes) {
         Ok(trailer) => {
+            let raw = trailer.numbers;
             let numbers = trace::recorded_on(trailer);
             print!(rt; "read with records {}", trailer.records)?;
-            print!(rt; " costs {} {}", trailer.read_cost, trailer.write_cost)?;
+            print!(rt; " costs {} {}", raw.read_cost, raw.write_cost)?;
             print!(rt; " recorded on {} {}", numbers.read_cost, numbers.write_cost)?;
         }
         Err(why) => print!(rt; "{why}")?,

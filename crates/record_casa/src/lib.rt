@@ -32,15 +32,7 @@ pub struct Noted<T> {
 pub fn begin(pool: Pool, notes: &[u8], buffer: &mut [u8]) -> Recorded
     ensures { recorded_left result buffer.new ≡ begin_after (numbers_in pool) notes.now buffer.old }
 {
-    recorder::begin(
-        pool.numbers.frames,
-        pool.numbers.page_bytes,
-        pool.numbers.pages,
-        pool.numbers.read_cost as usize,
-        pool.numbers.write_cost as usize,
-        notes,
-        buffer,
-    )
+    recorder::begin(pool.numbers, notes, buffer)
 }
 
 // ---- the record of a call

@@ -4,7 +4,7 @@
 -- Assumes nothing.
 use Rattle.std.specs.Prelude.{Bool, not, ◌&&◌, List, [], ◌∷◌, ℕ, ◌+◌, ◌*◌, ◌^◌, leb, ltb, length, Option, is_none, Ok, Err}
 use Rattle.pages.specs.Pages.{splice}
-use Rattle.model.specs.Numbers.{Numbers, numbers}
+use Rattle.model.specs.Numbers.{Numbers, numbers, numbers_held, holding}
 use Rattle.model.specs.Refusals.{Row, first, out_of_limits}
 use Rattle.model.specs.declared.Refusal.TheVariants.{BadRecord, NoRoom}
 use Rattle.model.specs.Words.{Verdict}
@@ -20,19 +20,10 @@ use Rattle.recorder.specs.declared.Recorded.{Recorded}
 
 -- of the numbers n, raw as they were given, with k records from byte `start` on
 abbrev pub recorder_of : Numbers → ℕ → ℕ → Recorder
-recorder_of n start k =
-    record {
-      frames = n.b;
-      page_bytes = n.P;
-      pages = n.N;
-      read_cost = n.r;
-      write_cost = n.w;
-      start = start;
-      records = k;
-    }
+recorder_of n start k = record { numbers = holding n; start = start; records = k }
 
 abbrev pub numbers_of : Recorder → Numbers
-numbers_of x = numbers x.frames x.page_bytes x.pages x.read_cost x.write_cost
+numbers_of x = numbers_held x.numbers
 
 -- where the next record goes, or the trailer
 abbrev pub end_of : Recorder → ℕ
@@ -75,7 +66,7 @@ abbrev pub begin_rows : Numbers → ℕ → ℕ → List Row
 begin_rows n notes m = wrong_numbers n ∷ no_room notes 0 m ∷ []
 
 abbrev pub add_rows : Recorder → Record → ℕ → List Row
-add_rows x r m = wrong_numbers (numbers_of x) ∷ refused_record x.pages (x.records + 1) r ∷ no_room x.start (x.records + 1) m ∷ []
+add_rows x r m = wrong_numbers (numbers_of x) ∷ refused_record x.numbers.pages (x.records + 1) r ∷ no_room x.start (x.records + 1) m ∷ []
 
 abbrev pub close_rows : Recorder → ℕ → List Row
 close_rows x m = wrong_numbers (numbers_of x) ∷ no_room x.start x.records m ∷ []

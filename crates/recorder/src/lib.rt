@@ -7,24 +7,20 @@
 #![tactic(auto)]
 
 ghost use Rattle.std.specs.Prelude.{◌≡◌, ◌≤◌, is_some};
-ghost use Rattle.model.specs.Numbers.{numbers};
+ghost use Rattle.model.specs.Numbers.{numbers_held};
 ghost use Rattle.trace.specs.Encode.{trailer_of};
 ghost use Rattle.recorder.specs.Calls.{numbers_of, found_for, room_for, add_verdict, close_verdict};
 ghost use Rattle.recorder.specs.Calls.{begin_after, add_after, close_after, recorded_left, closed_left};
 ghost use Rattle.recorder.specs.Runs.{tape, answer_verdict, recorded_by};
 
-use model::Refusal;
+use model::{Numbers, Refusal};
 use trace::{Record, Trailer};
 
 // The numbers as a trailer holds them, where the records start in the buffer, and how many there are. It holds nothing that could contradict the buffer: that
 // is lent to each call, and may be another one.
 #[derive(Clone, Copy, Default)]
 pub struct Recorder {
-    pub frames: usize,
-    pub page_bytes: usize,
-    pub pages: usize,
-    pub read_cost: usize,
-    pub write_cost: usize,
+    pub numbers: Numbers,
     pub start: usize,
     // As many bits as a trailer has for them.
     pub records: u32,
@@ -52,11 +48,7 @@ fn trailer_of(recorder: Recorder) -> Trailer
     Trailer {
         distance: TRAILER + 4 * records,
         records,
-        frames: recorder.frames,
-        page_bytes: recorder.page_bytes,
-        pages: recorder.pages,
-        read_cost: recorder.read_cost,
-        write_cost: recorder.write_cost,
+        numbers: recorder.numbers,
     }
 }
 
@@ -104,7 +96,7 @@ fn add_verdict(recorder: Recorder, what: Record, n: usize) -> Result<(), Refusal
         return Err(Refusal::OutOfLimits);
     }
     let number = recorder.records as usize + 1;
-    if !accepted(what, recorder.pages) {
+    if !accepted(what, recorder.numbers.pages) {
         return Err(Refusal::BadRecord(number));
     }
     if !has_room(recorder.start, number, n) {
@@ -117,25 +109,12 @@ fn add_verdict(recorder: Recorder, what: Record, n: usize) -> Result<(), Refusal
 
 // Begins a trace: its notes go to the front of the buffer. Refused: 1, 11; then the recorder is all zeros, which `add` and `close` refuse 1.
 #[tactic(auto, using(crate::proofs::Laws::begins), unfolding(crate::specs::Calls::begin_after))]
-pub fn begin(
-    frames: usize,
-    page_bytes: usize,
-    pages: usize,
-    read_cost: usize,
-    write_cost: usize,
-    notes: &[u8],
-    buffer: &mut [u8],
-) -> Recorded
-    ensures { recorded_left result buffer.new
-        ≡ begin_after (numbers frames page_bytes pages read_cost write_cost) notes.now buffer.old }
+pub fn begin(numbers: Numbers, notes: &[u8], buffer: &mut [u8]) -> Recorded
+    ensures { recorded_left result buffer.new ≡ begin_after (numbers_held numbers) notes.now buffer.old }
 {
     let size = notes.len();
     let recorder = Recorder {
-        frames,
-        page_bytes,
-        pages,
-        read_cost,
-        write_cost,
+        numbers,
         start: size,
         records: 0,
     };

@@ -156,13 +156,14 @@ fn judge(bytes: &[u8]) -> Result<Fitting, Refusal> {
         return Err(Refusal::LongFile);
     }
     let trailer = trace::check(bytes)?;
-    let page_bytes = trailer.page_bytes;
+    let numbers = trailer.numbers;
+    let page_bytes = numbers.page_bytes;
     // Never: `trace::check` has tested the limits. They are tested again so that the sizes are known to fit.
-    if 64 < trailer.frames || MOST_PAGE < page_bytes || 65536 < trailer.pages {
+    if 64 < numbers.frames || MOST_PAGE < page_bytes || 65536 < numbers.pages {
         return Err(Refusal::OutOfLimits);
     }
-    let frame_bytes = pages::area(trailer.frames, page_bytes);
-    let store_bytes = pages::area(trailer.pages, page_bytes);
+    let frame_bytes = pages::area(numbers.frames, page_bytes);
+    let store_bytes = pages::area(numbers.pages, page_bytes);
     if MOST_FRAMES < frame_bytes || MOST_STORE < store_bytes {
         return Err(Refusal::LargePool);
     }

@@ -136,12 +136,12 @@ records-length : (s : List ℕ) (t : Trailer) → checked_of s ≡ Ok t → (k l
 records-length s t e k zero h = refl
 records-length s t e k (suc left) h = rw (found s t e k (omega arith)).1 (ap suc (records-length s t e (k + 1) left (omega arith)))
 
-records-in : (s : List ℕ) (t : Trailer) → checked_of s ≡ Ok t → (k left : ℕ) → k + left ≤ t.records → RecordsIn t.pages (records_from s k left)
+records-in : (s : List ℕ) (t : Trailer) → checked_of s ≡ Ok t → (k left : ℕ) → k + left ≤ t.records → RecordsIn t.numbers.pages (records_from s k left)
 records-in s t e k zero h = tt
 records-in s t e k (suc left) h =
     let f = found s t e k (omega arith) in
     let d = sym (record_at-in s t (fine-header s t e).0 k (omega arith)) ∙ f.1 in
-    rw f.1 (record_in-in s (start_of s t k) t.pages f.0 d, records-in s t e (k + 1) left (omega arith))
+    rw f.1 (record_in-in s (start_of s t k) t.numbers.pages f.0 d, records-in s t e (k + 1) left (omega arith))
 
 records-bytes : (s : List ℕ) (t : Trailer) → AllBelow 256 s → checked_of s ≡ Ok t → (k left : ℕ) → k + left ≤ t.records
     → records_bytes (records_from s k left) ≡ take (4 * left) (drop (start_of s t k) s)
@@ -153,14 +153,14 @@ records-bytes s t b e k (suc left) h =
     let d = sym (record_at-in s t head k (omega arith)) ∙ f.1 in
     let at : start_of s t (k + 1) ≡ start_of s t k + 4 = omega arith in
     let one : record_bytes f.0 ≡ take 4 (drop (start_of s t k) s) =
-    record_in-bytes s (start_of s t k) t.pages f.0 d (omega (arith, a.whole, a.within)) b
+    record_in-bytes s (start_of s t k) t.numbers.pages f.0 d (omega (arith, a.whole, a.within)) b
     in
     rw (f.1, one, records-bytes s t b e (k + 1) left (omega arith), at, mul-suc, add_comm (4 * left) 4, take-add, drop-drop)
 
 pub records_in-length : (s : List ℕ) (t : Trailer) → checked_of s ≡ Ok t → length (records_in s t) ≡ t.records
 records_in-length s t e = records-length s t e 0 t.records (omega arith)
 
-pub records_in-in : (s : List ℕ) (t : Trailer) → checked_of s ≡ Ok t → RecordsIn t.pages (records_in s t)
+pub records_in-in : (s : List ℕ) (t : Trailer) → checked_of s ≡ Ok t → RecordsIn t.numbers.pages (records_in s t)
 records_in-in s t e = records-in s t e 0 t.records (omega arith)
 
 -- ---- the whole trace
@@ -173,11 +173,7 @@ trailer_of-in s t e =
     λ i. record {
       distance = d i;
       records = l i;
-      frames = t.frames;
-      page_bytes = t.page_bytes;
-      pages = t.pages;
-      read_cost = t.read_cost;
-      write_cost = t.write_cost;
+      numbers = t.numbers;
     }
 
 pub encoded : (s : List ℕ) (t : Trailer) → AllBelow 256 s → checked_of s ≡ Ok t

@@ -97,7 +97,7 @@ unfolding record_at
 past-none s t e k h = rw (e, le-ltb k t.records h)
 
 -- before that there is the record that its four bytes spell, and none just where 8 refuses that record
-pub record_at-in : (s : List ℕ) (t : Trailer) → header_of s ≡ Ok t → (k : ℕ) → k < t.records → record_at s k ≡ record_in s (start_of s t k) t.pages
+pub record_at-in : (s : List ℕ) (t : Trailer) → header_of s ≡ Ok t → (k : ℕ) → k < t.records → record_at s k ≡ record_in s (start_of s t k) t.numbers.pages
 unfolding record_at
 record_at-in s t e k h = rw (e, lt-ltb k t.records h)
 
@@ -106,7 +106,7 @@ pub fine-record : (s : List ℕ) (t : Trailer) → checked_of s ≡ Ok t → (k 
 fine-record s t e k h =
     let f = fine-header s t e in
     rw (record_at-in s t f.0 k h)
-    (first_bad-none s t.pages (length s - t.distance) 0 t.records f.1 k (omega arith) (omega arith))
+    (first_bad-none s t.numbers.pages (length s - t.distance) 0 t.records f.1 k (omega arith) (omega arith))
 
 -- 8 names the first bad record, counted from 1: there is none at its place, and one at each place before it
 pub record BadAt (s : List ℕ) (t : Trailer) (k : ℕ) : Type 0 where
@@ -119,7 +119,7 @@ pub bad-record : (s : List ℕ) (t : Trailer) (k : ℕ) → header_of s ≡ Ok t
 bad-record s t k h e =
     let d = refused-record s t (BadRecord k) h e in
     let n : bad_in s t ≡ Some k = cc in
-    let f = first_bad-at s t.pages (length s - t.distance) 0 t.records k n in
+    let f = first_bad-at s t.numbers.pages (length s - t.distance) 0 t.records k n in
     record {
       low = omega (arith, f.from);
       high = omega (arith, f.within);

@@ -72,11 +72,11 @@ drop-records notes rs n = rw (← drop-drop, drop-notes) (drop_at (records_bytes
 record Fits (t : Trailer) : Type 0 where
   pub distance : t.distance < 256 ^ 4
   pub records : t.records < 256 ^ 4
-  pub frames : t.frames < 256 ^ 2
-  pub page_bytes : t.page_bytes < 256 ^ 2
-  pub pages : t.pages < 256 ^ 4
-  pub read_cost : t.read_cost < 256 ^ 2
-  pub write_cost : t.write_cost < 256 ^ 2
+  pub frames : t.numbers.frames < 256 ^ 2
+  pub page_bytes : t.numbers.page_bytes < 256 ^ 2
+  pub pages : t.numbers.pages < 256 ^ 4
+  pub read_cost : t.numbers.read_cost < 256 ^ 2
+  pub write_cost : t.numbers.write_cost < 256 ^ 2
 
 trailer-fits : (k : ℕ) (n : Numbers) → in_limits (recorded_on n) ≡ true → trailer_length + 4 * k < 2 ^ 32 → Fits (trailer_of k n)
 trailer-fits k n e h =
@@ -99,11 +99,13 @@ trailer-decoded s at t e f =
     λ i. record {
       distance = distance i;
       records = (field 4 4 ∙ number_of-bytes_of 4 t.records f.records) i;
-      frames = (field 8 2 ∙ number_of-bytes_of 2 t.frames f.frames) i;
-      page_bytes = (field 10 2 ∙ number_of-bytes_of 2 t.page_bytes f.page_bytes) i;
-      pages = (field 12 4 ∙ number_of-bytes_of 4 t.pages f.pages) i;
-      read_cost = (field 16 2 ∙ number_of-bytes_of 2 t.read_cost f.read_cost) i;
-      write_cost = (field 18 2 ∙ number_of-bytes_of 2 t.write_cost f.write_cost) i;
+      numbers = record {
+        frames = (field 8 2 ∙ number_of-bytes_of 2 t.numbers.frames f.frames) i;
+        page_bytes = (field 10 2 ∙ number_of-bytes_of 2 t.numbers.page_bytes f.page_bytes) i;
+        pages = (field 12 4 ∙ number_of-bytes_of 4 t.numbers.pages f.pages) i;
+        read_cost = (field 16 2 ∙ number_of-bytes_of 2 t.numbers.read_cost f.read_cost) i;
+        write_cost = (field 18 2 ∙ number_of-bytes_of 2 t.numbers.write_cost f.write_cost) i;
+      };
     }
 
 judged-decoded : (m k : ℕ) (n : Numbers) → in_limits (recorded_on n) ≡ true → trailer_length + 4 * k ≤ m

@@ -23,19 +23,15 @@ checked-one-to-one (Ok t) (Err y) e = cc
 checked-one-to-one (Ok t) (Ok u) e =
     let distance : t.distance ≡ u.distance = cc in
     let records : t.records ≡ u.records = cc in
-    let frames : t.frames ≡ u.frames = cc in
-    let page_bytes : t.page_bytes ≡ u.page_bytes = cc in
-    let pages : t.pages ≡ u.pages = cc in
-    let read_cost : t.read_cost ≡ u.read_cost = cc in
-    let write_cost : t.write_cost ≡ u.write_cost = cc in
+    let frames : t.numbers.frames ≡ u.numbers.frames = cc in
+    let page_bytes : t.numbers.page_bytes ≡ u.numbers.page_bytes = cc in
+    let pages : t.numbers.pages ≡ u.numbers.pages = cc in
+    let read_cost : t.numbers.read_cost ≡ u.numbers.read_cost = cc in
+    let write_cost : t.numbers.write_cost ≡ u.numbers.write_cost = cc in
     λ i. Ok record {
       distance = distance i;
       records = records i;
-      frames = frames i;
-      page_bytes = page_bytes i;
-      pages = pages i;
-      read_cost = read_cost i;
-      write_cost = write_cost i;
+      numbers = record { frames = frames i; page_bytes = page_bytes i; pages = pages i; read_cost = read_cost i; write_cost = write_cost i };
     }
 
 pub header-settled : (s : List ℕ) (x y : Checked) → checked_says x ≡ checked_says (header_of s) → checked_says y ≡ checked_says (header_of s) → x ≡ y

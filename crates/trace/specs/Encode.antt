@@ -2,7 +2,7 @@
 -- Assumes nothing.
 use Rattle.std.specs.Prelude.{ℕ, ◌+◌, ◌*◌, ◌<◌, List, [], ◌∷◌, ◌++◌, length}
 use Rattle.little.specs.Little.{bytes_of}
-use Rattle.model.specs.Numbers.{Numbers}
+use Rattle.model.specs.Numbers.{Numbers, holding}
 use Rattle.trace.specs.declared.Trailer.{Trailer}
 use Rattle.trace.specs.declared.Record.{Record}
 use Rattle.trace.specs.declared.Record.TheVariants.{Read, Write, Flush, Drop}
@@ -24,18 +24,15 @@ trailer_of k n =
     record {
       distance = trailer_length + 4 * k;
       records = k;
-      frames = n.b;
-      page_bytes = n.P;
-      pages = n.N;
-      read_cost = n.r;
-      write_cost = n.w;
+      numbers = holding n;
     }
 
 unfoldable pub trailer_bytes : Trailer → List ℕ
 trailer_bytes t =
     bytes_of 4 t.distance
     ++ (bytes_of 4 t.records
-    ++ (bytes_of 2 t.frames ++ (bytes_of 2 t.page_bytes ++ (bytes_of 4 t.pages ++ (bytes_of 2 t.read_cost ++ bytes_of 2 t.write_cost)))))
+    ++ (bytes_of 2 t.numbers.frames
+    ++ (bytes_of 2 t.numbers.page_bytes ++ (bytes_of 4 t.numbers.pages ++ (bytes_of 2 t.numbers.read_cost ++ bytes_of 2 t.numbers.write_cost)))))
 
 unfoldable pub trace_bytes : List ℕ → List Record → Numbers → List ℕ
 trace_bytes notes rs n = notes ++ (records_bytes rs ++ trailer_bytes (trailer_of (length rs) n))

@@ -9,7 +9,7 @@
 use Rattle.std.specs.Prelude.{ℕ, zero, suc, ◌+◌, ◌*◌, ◌-◌, Bool, not, ◌&&◌, cond as if-else, List, [], ◌∷◌, ◌++◌, eqb, leb, ltb, length, get_or}
 use Rattle.std.specs.Prelude.{take, drop, Option, Some, None, is_none, option_to_list, Result, Ok, Err}
 use Rattle.little.specs.Little.{number_of}
-use Rattle.model.specs.Numbers.{Numbers, on_drive}
+use Rattle.model.specs.Numbers.{Numbers, numbers, numbers_held, holding, on_drive}
 use Rattle.model.specs.Refusals.{Row, first, out_of_limits}
 use Rattle.model.specs.Words.{named_by}
 use Rattle.model.specs.declared.Refusal.{Refusal}
@@ -34,15 +34,11 @@ trailer_at s at =
     record {
       distance = number_at at 4 s;
       records = number_at (at + 4) 4 s;
-      frames = number_at (at + 8) 2 s;
-      page_bytes = number_at (at + 10) 2 s;
-      pages = number_at (at + 12) 4 s;
-      read_cost = number_at (at + 16) 2 s;
-      write_cost = number_at (at + 18) 2 s;
+      numbers = holding (numbers (number_at (at + 8) 2 s) (number_at (at + 10) 2 s) (number_at (at + 12) 4 s) (number_at (at + 16) 2 s) (number_at (at + 18) 2 s));
     }
 
 abbrev pub numbers_in : Trailer → Numbers
-numbers_in t = record { b = t.frames; P = t.page_bytes; N = t.pages; r = t.read_cost; w = t.write_cost }
+numbers_in t = numbers_held t.numbers
 
 -- "stored files were recorded on 1 and 4"
 abbrev pub recorded_read : ℕ
@@ -102,7 +98,7 @@ start_of s t k = length s - t.distance + 4 * k
 
 abbrev pub record_by : Checked → List ℕ → ℕ → Option Record
 record_by (Err x) s k = None
-record_by (Ok t) s k = if-else (ltb k t.records) (record_in s (start_of s t k) t.pages) None
+record_by (Ok t) s k = if-else (ltb k t.records) (record_in s (start_of s t k) t.numbers.pages) None
 
 -- what the reader finds at place k
 unfoldable pub record_at : List ℕ → ℕ → Option Record
@@ -120,7 +116,7 @@ first_bad s N start k zero = None
 first_bad s N start k (suc left) = if-else (is_none (record_in s (start + 4 * k) N)) (Some (k + 1)) (first_bad s N start (k + 1) left)
 
 abbrev pub bad_in : List ℕ → Trailer → Option ℕ
-bad_in s t = first_bad s t.pages (length s - t.distance) 0 t.records
+bad_in s t = first_bad s t.numbers.pages (length s - t.distance) 0 t.records
 
 -- of a trailer that is not refused, and the first bad record
 abbrev pub checked_records : Trailer → Option ℕ → Checked

@@ -15,7 +15,7 @@ pub data TraceSaid : Type 0 where
 abbrev pub checked_says : Checked → TraceSaid
 checked_says (Err x) = refused (number_of x) (named_by x)
 checked_says (Ok t) =
-    fine (t.distance ∷ t.records ∷ t.frames ∷ t.page_bytes ∷ t.pages ∷ t.read_cost ∷ t.write_cost ∷ [])
+    fine (t.distance ∷ t.records ∷ t.numbers.frames ∷ t.numbers.page_bytes ∷ t.numbers.pages ∷ t.numbers.read_cost ∷ t.numbers.write_cost ∷ [])
 
 -- letter, value and page; nothing where there is no record
 abbrev pub record_says : Record → List ℕ

@@ -17,11 +17,7 @@ use model::{Numbers, Refusal};
 pub struct Trailer {
     pub distance: usize,
     pub records: usize,
-    pub frames: usize,
-    pub page_bytes: usize,
-    pub pages: usize,
-    pub read_cost: usize,
-    pub write_cost: usize,
+    pub numbers: Numbers,
 }
 
 #[derive(Clone, Copy)]
@@ -61,11 +57,13 @@ fn trailer_at(bytes: &[u8], at: usize) -> Trailer
     Trailer {
         distance: number(bytes, at, 4),
         records: number(bytes, at + 4, 4),
-        frames: number(bytes, at + 8, 2),
-        page_bytes: number(bytes, at + 10, 2),
-        pages: number(bytes, at + 12, 4),
-        read_cost: number(bytes, at + 16, 2),
-        write_cost: number(bytes, at + 18, 2),
+        numbers: Numbers {
+            frames: number(bytes, at + 8, 2),
+            page_bytes: number(bytes, at + 10, 2),
+            pages: number(bytes, at + 12, 4),
+            read_cost: number(bytes, at + 16, 2) as u64,
+            write_cost: number(bytes, at + 18, 2) as u64,
+        },
     }
 }
 
@@ -84,13 +82,7 @@ fn points_back(n: usize, distance: usize, records: usize) -> bool
 pub fn recorded_on(trailer: Trailer) -> Numbers
     ensures { numbers_held result ≡ recorded_on (numbers_in trailer) }
 {
-    let numbers = Numbers {
-        frames: trailer.frames,
-        page_bytes: trailer.page_bytes,
-        pages: trailer.pages,
-        read_cost: trailer.read_cost as u64,
-        write_cost: trailer.write_cost as u64,
-    };
+    let numbers = trailer.numbers;
     if numbers.read_cost == 0 && numbers.write_cost == 0 {
         return Numbers {
             read_cost: RECORDED_READ,
@@ -183,7 +175,7 @@ pub fn check(bytes: &[u8]) -> Result<Trailer, Refusal>
 {
     let trailer = header(bytes)?;
     let start = bytes.len() - trailer.distance;
-    match first_bad(bytes, start, trailer.records, trailer.pages) {
+    match first_bad(bytes, start, trailer.records, trailer.numbers.pages) {
         Some(bad) => Err(Refusal::BadRecord(bad)),
         None => Ok(trailer),
     }
@@ -200,7 +192,7 @@ pub fn record_at(bytes: &[u8], place: usize) -> Option<Record>
         return None;
     }
     let start = bytes.len() - trailer.distance;
-    record_in(bytes, start + 4 * place, trailer.pages)
+    record_in(bytes, start + 4 * place, trailer.numbers.pages)
 }
 
 // The place after the record at `place`; where there is none, the same place.

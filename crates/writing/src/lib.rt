@@ -43,9 +43,9 @@ pub fn put_trailer(buffer: &mut [u8], at: usize, trailer: Trailer)
 {
     put_number(buffer, at, 4, trailer.distance);
     put_number(buffer, at + 4, 4, trailer.records);
-    put_number(buffer, at + 8, 2, trailer.frames);
-    put_number(buffer, at + 10, 2, trailer.page_bytes);
-    put_number(buffer, at + 12, 4, trailer.pages);
-    put_number(buffer, at + 16, 2, trailer.read_cost);
-    put_number(buffer, at + 18, 2, trailer.write_cost);
+    put_number(buffer, at + 8, 2, trailer.numbers.frames);
+    put_number(buffer, at + 10, 2, trailer.numbers.page_bytes);
+    put_number(buffer, at + 12, 4, trailer.numbers.pages);
+    put_number(buffer, at + 16, 2, trailer.numbers.read_cost as usize);
+    put_number(buffer, at + 18, 2, trailer.numbers.write_cost as usize);
 }
