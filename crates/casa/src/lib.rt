@@ -1,6 +1,6 @@
 // The public calls of the page buffer, on a pool that is handed in and handed back: open, read, write, flush, drop and total, a read and a write also in a form
 // that takes kept numbers. Every call takes any numbers, any bytes and any pool; what cannot be served is refused with the scope's number, and a refused call
-// changes nothing.
+// changes nothing. Frame memory and store are lent apart, since a flush and a drop only look at the one and write the other.
 #![tactic(auto)]
 
 ghost use Rattle.std.specs.Prelude.{◌≡◌, []};

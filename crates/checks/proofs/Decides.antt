@@ -1,12 +1,12 @@
 -- A test's answer and what it tells.
 --     test-passed, test-refuted, decides-passed, decides-refuted    behind `if !test`
---     decides-of, decides-test, decides-iff, decides-same    a test's answer
+--     decides-of, decides-iff, decides-same    a test's answer
 -- Assumes nothing.
 use mathlib.Core.Path.{◌≡◌, refl, sym, ◌∙◌}
 use mathlib.Core.Bool.{Bool, true, false, false≢true}
 use mathlib.Core.Logic.{◌≢◌}
 use Rattle.checks.specs.Tests.{Decides}
-use Rattle.checks.proofs.Exact.{Exact, exact-self}
+use Rattle.checks.proofs.Exact.{Exact}
 
 -- ---- behind `if !test`
 
@@ -30,9 +30,6 @@ module _ {A : Type 0} where
 pub decides-of : {A : Type 0} (t : Bool) → Exact t A → Decides t A
 decides-of true a = a.means refl
 decides-of false a = λ x. false≢true (a.test x)
-
-pub decides-test : (s t : Bool) → s ≡ t → Decides s (t ≡ true)
-decides-test s t e = rw e (decides-of t (exact-self t))
 
 pub decides-iff : {A B : Type 0} (t : Bool) → (A → B) → (B → A) → Decides t A → Decides t B
 decides-iff true f g d = f d

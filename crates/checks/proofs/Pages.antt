@@ -1,6 +1,7 @@
 -- The test of the pages is exact. Where every empty frame has page 0, one more frame may have it, so the frames with page 0 are counted against the
 -- empty ones; no other page stands twice.
 --     PagesTest, pages-test, test-pages    what the test finds out, and that right pages are those that pass it
+--     blank-exact    frames of a list that all have 0
 --     low-front, low-all    pages that are low, among the first b or among all, where the others are 0
 --     empty-below    the empty frames have a place
 --     pages-decides    the answer of the four tests
@@ -58,6 +59,10 @@ module _ (page : List ℕ) where
 
 -- ---- the test
 
+-- of pages, and of any other numbers that frames have
+pub blank-exact : (page E : List ℕ) → Exact (blank_all page E) ((f : ℕ) → 1 ≤ count f E → get_or page f 0 ≡ 0)
+blank-exact page E = exact-every (λ f. exact-eqb (get_or page f 0) 0) E
+
 pub record PagesTest (b N : ℕ) (E page : List ℕ) : Type 0 where
   pub low : every (is_at_most (N - 1)) (take b page) ≡ true
   pub blank : blank_all page E ≡ true
@@ -68,16 +73,13 @@ module _ (b N : ℕ) (E page : List ℕ) (some : 1 ≤ N) (long : b ≤ length p
   low-exact : Exact (every (is_at_most (N - 1)) (take b page)) ((f : ℕ) → f < b → get_or page f 0 ≤ N - 1)
   low-exact = exact-places (is_at_most (N - 1)) page 0 b long (λ f. exact-leb (get_or page f 0) (N - 1))
 
-  blank-exact : Exact (blank_all page E) ((f : ℕ) → 1 ≤ count f E → get_or page f 0 ≡ 0)
-  blank-exact = exact-every (λ f. exact-eqb (get_or page f 0) 0) E
-
   -- two more frames with page 0 than empty ones would be two frames that are not empty
   pub pages-test : PagesRight b N E page → PagesTest b N E page
   pages-test p =
       record {
         low = low-exact.test
             (λ f h. dite (dec_lt 0 (count f E)) (λ k. omega (arith, p.blank f k)) (λ n. omega (arith, p.inside f h (omega arith))));
-        blank = blank-exact.test p.blank;
+        blank = (blank-exact page E).test p.blank;
         few = dite (dec_lt (length E + 1) (length (blanks page b))) (λ l. absurd (two l)) (λ n. omega (arith, blanks-length page b long));
         apart = nonzero_apart-of page b (λ f g h k e n. p.apart f g h k (full f n) (full g (λ z. n (e ∙ z))) e);
       }
@@ -108,7 +110,7 @@ module _ (b N : ℕ) (E page : List ℕ) (some : 1 ≤ N) (long : b ≤ length p
       }
     where
       blank : (f : ℕ) → 1 ≤ count f E → get_or page f 0 ≡ 0
-      blank = blank-exact.means t.blank
+      blank = (blank-exact page E).means t.blank
 
       within : (f : ℕ) → count f E ≤ count f (blanks page b)
       within f =

@@ -1,5 +1,5 @@
 // The same calls on a pool that is lent, and brought up to date where it stands: for a loop that holds one pool. Each is thin over the call by value, and
-// answers alike.
+// answers alike. Both forms stay: who lends a pool keeps it, and who hands one in may have no place of its own where it stands.
 #![tactic(auto)]
 
 ghost use Rattle.std.specs.Prelude.{◌≡◌, []};

@@ -61,7 +61,7 @@ pub enum Place {
     InDirty(usize),
 }
 
-// Which frame a fault takes: the one at a place of E, of C or of D.
+// Which frame a fault takes: the one at a place of E, of C or of D. There is always one, so none of the three stands for none.
 #[derive(Clone, Copy)]
 pub enum Choice {
     OfEmpty(usize),

@@ -1,5 +1,4 @@
 -- Laws of plain lists.
---     hole-down, hole-up, hole-fill    a shift moves a hole: without the place of the hole the list stays the same, and a store at the hole ends it
 --     front-stays    what stands first is at the front
 --     remove_at-append, remove_at-seam, insert_at-seam    taking out of and putting into two lists, one behind the other
 --     remove_at-length, down_from-length    how long a list is
@@ -8,39 +7,13 @@
 -- Assumes nothing.
 use mathlib.Core.Path.{◌≡◌, refl, ap, ◌∙◌}
 use mathlib.Core.List.{List, [], ◌∷◌, ◌++◌}
-use Prim.Native.Nat.{ℕ, zero, suc, ◌+◌, ◌-◌, ◌≤◌, ◌<◌}
+use Prim.Native.Nat.{ℕ, zero, suc, ◌+◌, ◌≤◌, ◌<◌}
 use native.Mathlib.Nat.{le_of_suc-le-suc, not-suc-le-zero}
 use native.Mathlib.Numerals.{add-one}
 use native.Mathlib.Omega.{arith}
 use lib.ListN.{length, get_or, set, take, drop, length-take, drop_of_length-le}
 use lib.Seq.{drop-cons, get_or-take}
 use Rattle.order.specs.Lists.{remove_at, insert_at, move_to_front, down_from}
-
--- ---- a hole
-
-hole-down-suc : (xs : List ℕ) (i : ℕ) → suc i < length xs → remove_at i (set xs (suc i) (get_or xs i 0)) ≡ remove_at (suc i) xs
-hole-down-suc [] i h = absurd (not-suc-le-zero h)
-hole-down-suc (x ∷ []) i h = absurd (not-suc-le-zero (le_of_suc-le-suc h))
-hole-down-suc (x ∷ y ∷ xs) zero h = refl
-hole-down-suc (x ∷ y ∷ xs) (suc i) h = ap (λ (r : List ℕ). x ∷ r) (hole-down-suc (y ∷ xs) i (le_of_suc-le-suc h))
-
-pub hole-down : (xs : List ℕ) (i : ℕ) → 0 < i → i < length xs → remove_at (i - 1) (set xs i (get_or xs (i - 1) 0)) ≡ remove_at i xs
-hole-down xs zero p h = absurd (not-suc-le-zero p)
-hole-down xs (suc i) p h = let e : suc i - 1 ≡ i = omega arith in rw e (hole-down-suc xs i h)
-
-hole-up-suc : (xs : List ℕ) (i : ℕ) → suc i < length xs → remove_at (suc i) (set xs i (get_or xs (suc i) 0)) ≡ remove_at i xs
-hole-up-suc [] i h = absurd (not-suc-le-zero h)
-hole-up-suc (x ∷ []) i h = absurd (not-suc-le-zero (le_of_suc-le-suc h))
-hole-up-suc (x ∷ y ∷ xs) zero h = refl
-hole-up-suc (x ∷ y ∷ xs) (suc i) h = ap (λ (r : List ℕ). x ∷ r) (hole-up-suc (y ∷ xs) i (le_of_suc-le-suc h))
-
-pub hole-up : (xs : List ℕ) (i : ℕ) → i + 1 < length xs → remove_at (i + 1) (set xs i (get_or xs (i + 1) 0)) ≡ remove_at i xs
-hole-up xs i h = let l : suc i < length xs = omega arith in rw add-one (hole-up-suc xs i l)
-
-pub hole-fill : (xs : List ℕ) (i x : ℕ) → i < length xs → set xs i x ≡ insert_at i x (remove_at i xs)
-hole-fill [] i x h = absurd (not-suc-le-zero h)
-hole-fill (y ∷ xs) zero x h = refl
-hole-fill (y ∷ xs) (suc i) x h = ap (λ (r : List ℕ). y ∷ r) (hole-fill xs i x (le_of_suc-le-suc h))
 
 -- ---- what stands first
 

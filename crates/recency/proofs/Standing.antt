@@ -2,22 +2,20 @@
 --     low-exact    the frames of two lists are below b
 --     frames-in-places    frames below b have a place
 --     empty-below, clean-below, dirty-below    where frames are right, those of all lists are below b
---     blank-exact    frames without a number
 --     full-decides    where no frame is empty: frames of which none stands twice, and as many as there are, are all of them
 --     standing-decides    where some are, and all frames stand once
 -- Assumes nothing.
-use mathlib.Core.Path.{◌≡◌, refl, ap}
-use mathlib.Core.Bool.{Bool, true, ◌&&◌}
+use mathlib.Core.Path.{◌≡◌}
+use mathlib.Core.Bool.{Bool, true}
 use mathlib.Core.Logic.{dite}
-use mathlib.Core.List.{List, [], ◌∷◌}
+use mathlib.Core.List.{List, []}
 use Prim.Native.Nat.{ℕ, ◌+◌, ◌-◌, ◌≤◌, ◌<◌}
 use native.Mathlib.Decide.{dec_lt}
 use native.Mathlib.Omega.{arith}
 use lib.ListN.{length, get_or, take, drop}
 use lib.Seq.{take_all}
-use lib.Dec.{eqb}
 use borrow.Author.Tests.{eqb-true, le-leb}
-use Rattle.std.specs.List.{All, list_all}
+use Rattle.std.specs.List.{All}
 use Rattle.std.proofs.lemmas.List.Elements.{All-from_get_or}
 use Rattle.order.specs.Count.{count}
 use Rattle.order.specs.Places.{places, listed}
@@ -25,9 +23,10 @@ use Rattle.order.specs.declared.FrameList.{FrameList}
 use Rattle.order.specs.Merge.{merged, Ordered}
 use Rattle.order.proofs.Count.{count-here, count-once}
 use Rattle.order.proofs.Merged.{count-merged, merged-length, falls-once, falls-merged}
-use Rattle.checks.specs.Tests.{Decides, every, is_zero, is_at_most, FramesRight}
+use Rattle.checks.specs.Tests.{Decides, every, is_zero, is_at_most, blank_all, FramesRight}
+use Rattle.checks.proofs.Pages.{blank-exact}
 use Rattle.checks.proofs.Every.{every-means, every-of, every-front, every-both}
-use Rattle.checks.proofs.Exact.{Exact, exact-iff, exact-eqb, exact-leb, exact-every}
+use Rattle.checks.proofs.Exact.{Exact, exact-iff, exact-leb, exact-every}
 use Rattle.checks.proofs.Frames.{frames-below}
 use Rattle.checks.proofs.Decides.{decides-of, decides-iff}
 use Rattle.recency.specs.Recency.{falls_from, StandingRight}
@@ -69,15 +68,6 @@ module _ {b : ℕ} {E C D : List ℕ} (r : FramesRight b E C D) where
   pub dirty-below : Below b D
   dirty-below f c = frames-below r f (omega arith)
 
--- ---- frames without a number
-
-same-every : (t : ℕ → Bool) (xs : List ℕ) → list_all t xs ≡ every t xs
-same-every t [] = refl
-same-every t (x ∷ xs) = ap (λ b. t x && b) (same-every t xs)
-
-pub blank-exact : (reference E : List ℕ) → Exact (list_all (λ f. eqb (get_or reference f 0) 0) E) ((f : ℕ) → 1 ≤ count f E → get_or reference f 0 ≡ 0)
-blank-exact reference E = rw same-every (exact-every (λ f. exact-eqb (get_or reference f 0) 0) E)
-
 -- ---- frames and numbers
 
 module _ (b served : ℕ) (C D reference : List ℕ) where
@@ -110,7 +100,7 @@ module _ (b served : ℕ) (C D reference : List ℕ) where
       → (t : Bool) → t ≡ falls_from reference (served + 1) (merged reference C D) → Decides t (StandingRight b served (listed l) C D reference)
   full-decides l z sum hc hd t x = rw (z, x) (decides-of _ (full-exact sum hc hd))
 
-  pub standing-decides : (E : List ℕ) → FramesRight b E C D → list_all (λ f. eqb (get_or reference f 0) 0) E ≡ true
+  pub standing-decides : (E : List ℕ) → FramesRight b E C D → blank_all reference E ≡ true
       → (t : Bool) → t ≡ falls_from reference (served + 1) (merged reference C D) → Decides t (StandingRight b served E C D reference)
   standing-decides E f n t x =
       decides-iff t (λ o. record { frames = f; ordered = o; blank = (blank-exact reference E).means n }) (λ s. s.ordered)

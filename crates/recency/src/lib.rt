@@ -2,11 +2,11 @@
 // lists finds every fault, also a frame that stands twice, which has its number twice.
 #![tactic(auto)]
 
-ghost use Rattle.std.specs.Prelude.{◌≡◌, ◌==◌, true, ◌+◌, ◌≤◌, ◌<◌, slice_index, drop};
-ghost use Rattle.std.specs.List.{All, list_all};
+ghost use Rattle.std.specs.Prelude.{◌≡◌, true, ◌+◌, ◌≤◌, ◌<◌, drop};
+ghost use Rattle.std.specs.List.{All};
 ghost use Rattle.order.specs.Places.{places, listed};
 ghost use Rattle.order.specs.Merge.{merged};
-ghost use Rattle.checks.specs.Tests.{Decides, every, is_zero};
+ghost use Rattle.checks.specs.Tests.{Decides, every, is_zero, blank_all};
 ghost use Rattle.recency.specs.Recency.{falls_from, StandingRight};
 
 use checks::frame_test;
@@ -30,7 +30,7 @@ fn falls(frames: &[u8], reference: &[u32; PLACES], above: u32) -> bool
 }
 
 // The same of the merge of C and D. Once one of them is through, what is left of the other is looked through; from inside the loop, since a test behind it,
-// which of them that is, is compiled into every turn.
+// which of them that is, is compiled into every turn. A `loop`: each turn goes on in one of two lists, which no iterator does.
 fn merge_falls(c: &[u8], d: &[u8], reference: &[u32; PLACES], above: u32) -> bool
     requires c_in_places { All (λ f. f < places) c.now }
     requires d_in_places { All (λ f. f < places) d.now }
@@ -66,7 +66,7 @@ fn merge_falls(c: &[u8], d: &[u8], reference: &[u32; PLACES], above: u32) -> boo
 // Whether the frames of a list have number 0.
 fn none_numbered(frames: &[u8], reference: &[u32; PLACES]) -> bool
     requires { All (λ f. f < places) frames.now }
-    ensures { result ≡ list_all (λ f. slice_index reference.now f == 0) frames.now }
+    ensures { result ≡ blank_all reference.now frames.now }
 {
     frames.iter().all(|&f| reference[f as usize] == 0)
 }

@@ -38,7 +38,7 @@ pub fn lower(frames: u64, target: u64, cost: Costs, cn: u64, dn: u64) -> u64
     target.saturating_sub(step)
 }
 
-// Which frame is taken, by the lengths and the target: nothing else in the code knows.
+// Which frame is taken, by the lengths and the target: nothing else in the code knows. The tests stand as the rule has them, one behind the other.
 pub fn choose(en: usize, cn: usize, dn: usize, target: u64) -> Choice
     requires { (1 ≤ en + (cn + dn)) × (en + (cn + dn) ≤ places) }
     ensures { (result ≡ chosen_by en cn dn target) × ChoiceIn en cn dn result }

@@ -15,6 +15,7 @@ use model::{Access, Answer, MOST_SERVED, Numbers, Refusal, Victim};
 
 // Of a read or a write, and by its rows of a flush and a drop: whether the pool is sound, whether the kept numbers fit, the pool's numbers and served calls,
 // the `m` bytes of frame memory and `n` of store that are lent, the page, and whether the caller's own bytes fit. The costs refuse nothing.
+// `sound`, `timed` and `fit` are what the caller's own tests answered; each has its row in the list of refusals.
 #[tactic(auto, unfolding(model::specs::Refusals::request_verdict))]
 pub fn request_verdict(
     sound: bool,

@@ -9,7 +9,7 @@
 use Rattle.std.specs.Prelude.{ℕ, zero, suc, ◌+◌, ◌*◌, ◌-◌, Bool, not, ◌&&◌, cond as if-else, List, [], ◌∷◌, ◌++◌, eqb, leb, ltb, length, get_or}
 use Rattle.std.specs.Prelude.{take, drop, Option, Some, None, is_none, option_to_list, Result, Ok, Err}
 use Rattle.little.specs.Little.{number_of}
-use Rattle.model.specs.Numbers.{Numbers, numbers, numbers_held, holding, on_drive}
+use Rattle.model.specs.Numbers.{Numbers, numbers_held, on_drive}
 use Rattle.model.specs.Refusals.{Row, first, out_of_limits}
 use Rattle.model.specs.Words.{named_by}
 use Rattle.model.specs.declared.Refusal.{Refusal}
@@ -34,7 +34,14 @@ trailer_at s at =
     record {
       distance = number_at at 4 s;
       records = number_at (at + 4) 4 s;
-      numbers = holding (numbers (number_at (at + 8) 2 s) (number_at (at + 10) 2 s) (number_at (at + 12) 4 s) (number_at (at + 16) 2 s) (number_at (at + 18) 2 s));
+      numbers =
+          record {
+            frames = number_at (at + 8) 2 s;
+            page_bytes = number_at (at + 10) 2 s;
+            pages = number_at (at + 12) 4 s;
+            read_cost = number_at (at + 16) 2 s;
+            write_cost = number_at (at + 18) 2 s;
+          };
     }
 
 abbrev pub numbers_in : Trailer → Numbers

@@ -6,6 +6,7 @@ ghost use Rattle.trace.specs.Words.{next_says};
 
 use crate::{Record, first_place, place_after, record_at};
 
+// No `Iterator`: `next` looks at a record, and `moved` goes on to the one behind it, while an iterator's `next` would do both under the name of the first.
 #[derive(Clone, Copy)]
 pub struct Reader<'a> {
     pub trace: &'a [u8],

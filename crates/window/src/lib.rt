@@ -10,7 +10,7 @@ use model::Window;
 // A bit that no time has by itself.
 const MARK: u32 = 65536;
 
-// What one look through times finds: their sum, and whether none of them is 0.
+// What one look through times finds: their sum, and whether none of them is 0. The sum is wanted of times that are 0, too, so it is no `Option`.
 #[derive(Clone, Copy)]
 struct Tally {
     sum: u32,

@@ -1,14 +1,14 @@
 -- `recency::standing_right` meets its contract. Right frames are below their number, so a number in C or D that is not says no. Where no frame is empty,
 -- numbers that fall down the merge show all; else the marks show the frames, and numbers that fall the rest. Assumes nothing.
-use Rattle.std.proofs.Common.{◌≡◌, ◌&&◌, ℕ, ◌-◌, ◌≤◌, arith, length, get_or, take, drop, true, length-take-le, eqb, sym, ◌∙◌}
+use Rattle.std.proofs.Common.{◌≡◌, ◌&&◌, ℕ, ◌-◌, ◌≤◌, arith, length, take, drop, true, length-take-le, sym, ◌∙◌}
 use Rattle.std.proofs.lemmas.Bool.{false≢true}
-use Rattle.std.specs.List.{list_all}
 use Rattle.order.specs.declared.FrameList.{FrameList}
 use Rattle.order.specs.Places.{places, listed}
-use Rattle.checks.specs.Tests.{every, is_zero, is_at_most, FramesRight}
+use Rattle.checks.specs.Tests.{every, is_zero, is_at_most, FramesRight, blank_all}
 use Rattle.checks.proofs.Exact.{Exact, exact-and}
 use Rattle.checks.proofs.Decides.{test-passed, test-refuted, decides-passed, decides-refuted}
-use Rattle.recency.proofs.Standing.{Below, low-exact, frames-in-places, empty-below, clean-below, dirty-below, blank-exact, full-decides, standing-decides}
+use Rattle.recency.proofs.Standing.{Below, low-exact, frames-in-places, empty-below, clean-below, dirty-below, full-decides, standing-decides}
+use Rattle.checks.proofs.Pages.{blank-exact}
 use Rattle.recency.proofs.standing_right.Goals as goal
 use Rattle.recency.proofs.standing_right.Goals.{Then-both_low, Then-frames_right, Then-none_numbered, then-frames_right, else-frames_right}
 
@@ -71,7 +71,7 @@ none_numbered-requires c =
 passed : (c : Then-none_numbered)
     → let l = c.args.lists.now in
     FramesRight c.args.frames (listed l.empty) (listed l.clean) (listed l.dirty)
-    × (list_all (λ f. eqb (get_or c.args.reference.now f 0) 0) (listed l.empty) ≡ true)
+    × (blank_all c.args.reference.now (listed l.empty) ≡ true)
 passed c =
     elim c.if-frames_right.branch [
       | then-frames_right w ↦ (
