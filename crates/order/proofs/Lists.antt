@@ -2,13 +2,14 @@
 --     front-stays    what stands first is at the front
 --     remove_at-append, remove_at-seam, insert_at-seam    taking out of and putting into two lists, one behind the other
 --     remove_at-length, down_from-length    how long a list is
+--     down_from-drop    the frames below n without the first k of them
 --     drop-next, drop-take-next, drop-take-end    what a loop at place i has still to read: the element there and what is behind it, or nothing
 --     turned-right, turned-left    what stands at a place is turned to the front of what is before it, or behind what follows
 -- Assumes nothing.
 use mathlib.Core.Path.{◌≡◌, refl, ap, ◌∙◌}
 use mathlib.Core.List.{List, [], ◌∷◌, ◌++◌}
-use Prim.Native.Nat.{ℕ, zero, suc, ◌+◌, ◌≤◌, ◌<◌}
-use native.Mathlib.Nat.{le_of_suc-le-suc, not-suc-le-zero}
+use Prim.Native.Nat.{ℕ, zero, suc, ◌+◌, ◌-◌, ◌≤◌, ◌<◌}
+use native.Mathlib.Nat.{le_of_suc-le-suc, not-suc-le-zero, sub-zero}
 use native.Mathlib.Numerals.{add-one}
 use native.Mathlib.Omega.{arith}
 use lib.ListN.{length, get_or, set, take, drop, length-take, drop_of_length-le}
@@ -46,6 +47,11 @@ remove_at-length (x ∷ xs) (suc i) h = ap suc (remove_at-length xs i (le_of_suc
 pub down_from-length : (n : ℕ) → length (down_from n) ≡ n
 down_from-length zero = refl
 down_from-length (suc n) = ap suc (down_from-length n)
+
+pub down_from-drop : (n k : ℕ) → k ≤ n → drop k (down_from n) ≡ down_from (n - k)
+down_from-drop n zero h = rw sub-zero
+down_from-drop zero (suc k) h = absurd (omega arith)
+down_from-drop (suc n) (suc k) h = let e : suc n - suc k ≡ n - k = omega arith in rw e (down_from-drop n k (omega arith))
 
 -- ---- what is still to be read
 

@@ -2,7 +2,7 @@
 --     pad-length, pad-set, pad-get_or    a padded list
 --     none-in-places, in-places-length, in-places-take, in-places-get_or    the empty list, how many places there are, and what is read out of them
 --     front-in-places, remove-in-places, cons-in-places, tail-in-places    an operation on the places is one on the list
---     list_of-in-places, list_of-put_front    the list that the code holds, and a frame more at its front
+--     list_of-in-places, list_of-held, list_of-put_front    the list that the code holds, and a frame more at its front
 --     turn-in-places, rest-in-places    places are filled with a list, one after the other
 -- Assumes nothing.
 use mathlib.Core.Path.{◌≡◌, refl, sym, ap, subst, ◌∙◌}
@@ -110,6 +110,9 @@ as-promised {xs = xs} e h = subst (λ (l : FrameList). InPlaces l.places l.len x
 
 pub list_of-in-places : (xs : List ℕ) → length xs ≤ places → InPlaces (list_of xs).places (list_of xs).len xs
 list_of-in-places xs h = record { is = refl; len = refl; fits = h }
+
+pub list_of-held : {l : FrameList} {xs : List ℕ} → InPlaces l.places l.len xs → l ≡ list_of xs
+list_of-held h = λ i. record { places = h.is i; len = sym h.len i }
 
 pub list_of-put_front : (xs : List ℕ) (x : ℕ) → length xs < places
     → ◌≡◌ {A = FrameList} (record { places = x ∷ remove_at (length xs) (pad xs); len = length xs + 1 }) (list_of (x ∷ xs))

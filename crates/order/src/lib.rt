@@ -31,7 +31,7 @@ impl FrameList {
     {
         let mut list = FrameList::EMPTY;
         for k in 0..n {
-            list.put_front(k as u8);
+            list.push((n - 1 - k) as u8);
         }
         list
     }

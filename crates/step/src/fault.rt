@@ -18,38 +18,24 @@ fn page_in(page: &[u16; PLACES], frame: u8) -> usize
     page[frame as usize] as usize
 }
 
-// The chosen frame leaves its list.
-fn free(mut pool: Pool, choice: Choice) -> Freed
-    requires sound { Sound pool }
-    requires choice_in { ChoiceIn pool.lists.empty.len pool.lists.clean.len pool.lists.dirty.len choice }
-    ensures { result ≡ freed_of (taken (state_of pool) choice) }
+// The chosen frame leaves its list. What is freed is changed where it stands, here and in `take_frame`: handed over and back, a pool would be copied each time.
+fn free(freed: &mut Freed, choice: Choice)
+    requires sound { Sound freed.old.pool }
+    requires choice_in { ChoiceIn freed.old.pool.lists.empty.len freed.old.pool.lists.clean.len freed.old.pool.lists.dirty.len choice }
+    ensures { freed.new ≡ freed_of (taken (state_of freed.old.pool) choice) }
 {
     match choice {
         Choice::OfEmpty(i) => {
-            let frame = pool.lists.empty.take_out(i);
-            Freed {
-                pool,
-                frame,
-                victim: None,
-            }
+            freed.frame = freed.pool.lists.empty.take_out(i);
+            freed.victim = None;
         }
         Choice::OfClean(i) => {
-            let frame = pool.lists.clean.take_out(i);
-            let page = page_in(&pool.page, frame);
-            Freed {
-                pool,
-                frame,
-                victim: Some(Victim::Clean(page)),
-            }
+            freed.frame = freed.pool.lists.clean.take_out(i);
+            freed.victim = Some(Victim::Clean(page_in(&freed.pool.page, freed.frame)));
         }
         Choice::OfDirty(i) => {
-            let frame = pool.lists.dirty.take_out(i);
-            let page = page_in(&pool.page, frame);
-            Freed {
-                pool,
-                frame,
-                victim: Some(Victim::Dirty(page)),
-            }
+            freed.frame = freed.pool.lists.dirty.take_out(i);
+            freed.victim = Some(Victim::Dirty(page_in(&freed.pool.page, freed.frame)));
         }
     }
 }
@@ -64,33 +50,29 @@ fn writes_of(victim: Option<Victim>) -> u64
     }
 }
 
-// The frame that the policy chooses, out of its list and filled with the page, with the call's number. C and D have room for it.
-fn take_frame(pool: Pool, page: u16) -> Freed
-    requires { Sound pool }
-    ensures { (result ≡ freed_of (filled page (taken (state_of pool) (chosen (state_of pool))))) × (result.frame < places)
-        × (result.pool.lists.clean.len < places) × (result.pool.lists.dirty.len < places) }
+// The frame that the policy chooses, out of its list and filled with the page, with the call's number. C and D have room for it. It is kept a function of its
+// own: compiled into a call, it has the pool copied in more parts at each hit.
+#[inline(never)]
+fn take_frame(freed: &mut Freed, page: u16)
+    requires { Sound freed.old.pool }
+    ensures { (freed.new ≡ freed_of (filled page (taken (state_of freed.old.pool) (chosen (state_of freed.old.pool))))) × (freed.new.frame < places)
+        × (freed.new.pool.lists.clean.len < places) × (freed.new.pool.lists.dirty.len < places) }
 {
-    let lists = &pool.lists;
+    let lists = &freed.pool.lists;
     let choice = reckon::choose(
         lists.empty.len,
         lists.clean.len,
         lists.dirty.len,
-        pool.target,
+        freed.pool.target,
     );
-    let freed = free(pool, choice);
+    free(freed, choice);
     let writes = writes_of(freed.victim);
     let f = freed.frame as usize;
-    let mut next = freed.pool;
-    next.served += 1;
-    next.page[f] = page;
-    next.reference[f] = next.served as u32;
-    next.reads.0 += 1;
-    next.writes.0 += writes;
-    Freed {
-        pool: next,
-        frame: freed.frame,
-        victim: freed.victim,
-    }
+    freed.pool.served += 1;
+    freed.pool.page[f] = page;
+    freed.pool.reference[f] = freed.pool.served as u32;
+    freed.pool.reads.0 += 1;
+    freed.pool.writes.0 += writes;
 }
 
 // The frame goes to the front of C.
@@ -98,11 +80,16 @@ pub fn read(pool: Pool, page: u16) -> Step
     requires { Sound pool }
     ensures { result ≡ step_of (faulted Op.Read (state_of pool) page) }
 {
-    let taken = take_frame(pool, page);
-    let mut next = taken.pool;
-    next.lists.clean.put_front(taken.frame);
+    // No frame yet, and so no victim.
+    let mut taken = Freed {
+        pool,
+        frame: 0,
+        victim: None,
+    };
+    take_frame(&mut taken, page);
+    taken.pool.lists.clean.put_front(taken.frame);
     Step {
-        pool: next,
+        pool: taken.pool,
         frame: taken.frame as usize,
         answer: Ok(Access::Fault(taken.victim)),
     }
@@ -113,11 +100,16 @@ pub fn write(pool: Pool, page: u16) -> Step
     requires { Sound pool }
     ensures { result ≡ step_of (faulted Op.Write (state_of pool) page) }
 {
-    let taken = take_frame(pool, page);
-    let mut next = taken.pool;
-    next.lists.dirty.put_front(taken.frame);
+    // No frame yet, and so no victim.
+    let mut taken = Freed {
+        pool,
+        frame: 0,
+        victim: None,
+    };
+    take_frame(&mut taken, page);
+    taken.pool.lists.dirty.put_front(taken.frame);
     Step {
-        pool: next,
+        pool: taken.pool,
         frame: taken.frame as usize,
         answer: Ok(Access::Fault(taken.victim)),
     }

@@ -1,27 +1,29 @@
 -- The answers of `order::FrameList::all`, by the invariant that is argued in Invariants. Assumes nothing.
-use Rattle.std.proofs.Common.{◌≡◌, ◌∙◌, refl, ap, ℕ, ◌∷◌, ◌<◌, ◌+◌, suc, length, add-one, arith}
+use Rattle.std.proofs.Common.{◌≡◌, ◌∙◌, refl, ap, ◌-◌, suc, arith, take_all}
 use Rattle.order.specs.declared.FrameList.{FrameList}
-use Rattle.order.specs.Lists.{down_from, remove_at}
-use Rattle.order.specs.Places.{places, list_of}
-use Rattle.order.proofs.Lists.{down_from-length}
-use Rattle.order.proofs.Places.{list_of-put_front}
+use Rattle.order.specs.Lists.{down_from}
+use Rattle.order.proofs.Lists.{down_from-length, down_from-drop}
+use Rattle.order.proofs.Places.{none-in-places, turn-in-places, as-promised, list_of-held}
 use Rattle.order.proofs.FrameList.all.Goals as goal
 
 pub loop-k-init : goal.loop-k-init
-loop-k-init c = refl
+loop-k-init c = (none-in-places, refl)
 
-pub put_front-requires : goal.put_front-requires
-put_front-requires c = rw c.loop-k.invariant (omega (arith, down_from-length c.loop-k.k))
+pub push-requires : goal.push-requires
+push-requires c = omega (arith, c.loop-k.invariant.1)
 
 pub loop-k-preserved : goal.loop-k-preserved
 loop-k-preserved c =
     let k = c.loop-k.k in
-    let h : length (down_from k) < places = omega (arith, down_from-length k) in
-    let next : suc k ≡ k + 1 = rw add-one refl in
-    c.put_front.ensures
-    ∙ ap (λ (l : FrameList). record { places = k ∷ remove_at l.len l.places; len = l.len + 1 }) c.loop-k.invariant
-    ∙ list_of-put_front (down_from k) k h
-    ∙ ap (λ (n : ℕ). list_of (down_from n)) next
+    let n = c.args.n in
+    let e = c.loop-k.invariant.1 in
+    let next : n - k ≡ suc (n - 1 - k) = omega arith in
+    let held = rw e at c.loop-k.invariant.0 in
+    let more = turn-in-places (down_from n) (down_from (n - 1 - k)) (omega (arith, down_from-length n)) (omega arith)
+    (down_from-drop n k (omega arith) ∙ ap down_from next) held in
+    (as-promised (rw e at c.push.ensures) more, omega (arith, ap (λ (l : FrameList). l.len) c.push.ensures))
 
 pub returns : goal.returns
-returns c = let e : c.loop-k.k ≡ c.args.n = omega arith in rw (← e) c.loop-k.invariant
+returns c =
+    let e : c.loop-k.k ≡ c.args.n = omega arith in
+    list_of-held (rw (e, take_all c.args.n (down_from c.args.n) (omega (arith, down_from-length c.args.n))) at c.loop-k.invariant.0)

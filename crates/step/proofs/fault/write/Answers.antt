@@ -4,11 +4,11 @@ use Rattle.step.proofs.Faults.{taken-clean, taken-dirty, taken-front, fault-is}
 use Rattle.step.proofs.fault.write.Goals as goal
 
 pub put_front-requires : goal.put_front-requires
-put_front-requires c = c.take_frame-taken.ensures.3
+put_front-requires c = c.take_frame.ensures.3
 
 pub returns : goal.returns
 returns c =
-    let taken = c.take_frame-taken in
+    let taken = c.take_frame in
     let args = c.args in
     let s = state_of args.pool in
     let q = args.page in
