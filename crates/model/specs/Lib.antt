@@ -1,5 +1,6 @@
 pub mod Numbers
 pub mod Words
+pub mod Printed
 pub mod Target
 pub mod Times
 pub mod Counts

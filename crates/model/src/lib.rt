@@ -2,9 +2,10 @@
 // proofs/ shows what follows from it.
 #![tactic(auto)]
 
-ghost use Rattle.std.specs.Prelude.{◌≡◌};
+ghost use Rattle.std.specs.Prelude.{◌≡◌, Some};
 ghost use Rattle.model.specs.Numbers.{between, numbers_held, in_limits};
 ghost use Rattle.model.specs.Words.{number_of};
+ghost use Rattle.model.specs.Printed.{op_text, victim_text, access_text, refusal_text};
 
 use std::fmt;
 
@@ -146,6 +147,8 @@ impl Refusal {
 // ---- as the programs print it
 
 impl fmt::Display for Op {
+    ghost output = { λ x. Some (op_text x) };
+
     fn fmt<W: fmt::Write>(&self, f: &mut fmt::Formatter<W>) -> fmt::Result {
         f.write_str(match self {
             Op::Read => "read",
@@ -155,6 +158,8 @@ impl fmt::Display for Op {
 }
 
 impl fmt::Display for Victim {
+    ghost output = { λ x. Some (victim_text x) };
+
     fn fmt<W: fmt::Write>(&self, f: &mut fmt::Formatter<W>) -> fmt::Result {
         match self {
             Victim::Clean(page) => write!(f, "clean {page}"),
@@ -164,6 +169,8 @@ impl fmt::Display for Victim {
 }
 
 impl fmt::Display for Access {
+    ghost output = { λ x. Some (access_text x) };
+
     fn fmt<W: fmt::Write>(&self, f: &mut fmt::Formatter<W>) -> fmt::Result {
         match self {
             Access::Hit => f.write_str("hit"),
@@ -174,6 +181,8 @@ impl fmt::Display for Access {
 }
 
 impl fmt::Display for Refusal {
+    ghost output = { λ x. Some (refusal_text x) };
+
     fn fmt<W: fmt::Write>(&self, f: &mut fmt::Formatter<W>) -> fmt::Result {
         write!(f, "refused {}", self.number())
     }

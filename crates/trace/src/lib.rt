@@ -5,7 +5,7 @@
 pub mod reader;
 
 ghost use Rattle.std.specs.Prelude.{◌≡◌, ◌+◌, ◌*◌, ◌≤◌, ◌<◌, ◌^◌, length};
-ghost use Rattle.model.specs.Numbers.{in_limits, numbers_held};
+ghost use Rattle.model.specs.Numbers.{in_limits, holding};
 ghost use Rattle.trace.specs.Format.{number_at, trailer_at, numbers_in, recorded_on, points_back, judged, header_of};
 ghost use Rattle.trace.specs.Format.{record_of, record_in, record_at, first_bad, checked_of, place_after, first_place};
 ghost use Rattle.trace.specs.Words.{checked_says, next_says};
@@ -80,7 +80,7 @@ fn points_back(n: usize, distance: usize, records: usize) -> bool
 // trace opens with these, since both costs 0 mean another drive to open.
 #[tactic(auto, unfolding(model::specs::Numbers::on_drive))]
 pub fn recorded_on(trailer: Trailer) -> Numbers
-    ensures { numbers_held result ≡ recorded_on (numbers_in trailer) }
+    ensures { result ≡ holding (recorded_on (numbers_in trailer)) }
 {
     let numbers = trailer.numbers;
     if numbers.read_cost == 0 && numbers.write_cost == 0 {
