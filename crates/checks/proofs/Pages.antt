@@ -3,7 +3,7 @@
 --     PagesTest, pages-test, test-pages    what the test finds out, and that right pages are those that pass it
 --     blank-exact    frames of a list that all have 0
 --     low-front, low-all    pages that are low, among the first b or among all, where the others are 0
---     empty-below    the empty frames have a place
+--     empty-below, empty-in-places    the numbers of the list of empty frames are frames, and so they have a place
 --     pages-decides    the answer of the four tests
 -- Assumes nothing.
 use mathlib.Core.Path.{◌≡◌, refl, sym, ap, ◌∙◌}
@@ -14,7 +14,7 @@ use Prim.Native.Nat.{ℕ, zero, suc, ◌+◌, ◌-◌, ◌≤◌, ◌<◌}
 use native.Mathlib.Decide.{dec_lt, ℕ_discrete}
 use native.Mathlib.Omega.{arith}
 use lib.ListN.{length, get_or, take, drop}
-use lib.Seq.{take-suc, take_all}
+use lib.Seq.{take-suc, take_all, get_or-take, length-take-le}
 use lib.Dec.{eqb, leb}
 use borrow.Author.Tests.{eqb-true, eq-eqb, ne_eqb, le-leb}
 use Rattle.std.specs.List.{All}
@@ -131,8 +131,12 @@ module _ (b N : ℕ) (E page : List ℕ) (some : 1 ≤ N) (long : b ≤ length p
                 (omega (arith, bit-other g f (λ e. n (sym e))))),
           )
 
-pub empty-below : (b : ℕ) (E : List ℕ) → b ≤ places → EmptyRight b E → All (λ f. f < places) E
-empty-below b E fits right = All-from_get_or (λ f. f < places) E 0 (λ k h. omega (arith, count-below b E right.others k h))
+pub empty-below : (b : ℕ) (e : List ℕ) (en : ℕ) → en ≤ length e → EmptyRight b (take en e) → (k : ℕ) → k < en → get_or e k 0 < b
+empty-below b e en l right k h =
+    rw (get_or-take en e k 0 h) at (count-below b (take en e) right.others k (omega (arith, length-take-le en e l)))
+
+pub empty-in-places : (b : ℕ) (E : List ℕ) → b ≤ places → EmptyRight b E → All (λ f. f < places) E
+empty-in-places b E fits right = All-from_get_or (λ f. f < places) E 0 (λ k h. omega (arith, count-below b E right.others k h))
 
 -- ---- low pages
 

@@ -3,7 +3,7 @@
 use mathlib.Core.Path.{◌≡◌, ap, ◌∙◌}
 use mathlib.Core.List.{List, [], ◌∷◌, ◌++◌, append_assoc, append-nil}
 use Prim.Native.Nat.{ℕ, suc, ◌+◌, ◌-◌, ◌*◌, ◌/◌, ◌%◌, ◌^◌, ◌≤◌, ◌<◌}
-use native.Mathlib.Nat.{suc-mul, mul_assoc, mul-add, mul-le-mul_right, pow-succ', one-le-pow, add-sub_cancel_left, sub-zero}
+use native.Mathlib.Nat.{suc-mul, zero-mul, mul_assoc, mul-add, mul-le-mul_right, pow-succ', one-le-pow, add-sub_cancel_left, sub-zero}
 use native.Mathlib.Numerals.{add-one}
 use native.Mathlib.Omega.{arith}
 use lib.ListN.{length, take, drop, get_or, set, length-append, drop_of_length-le}
@@ -66,10 +66,13 @@ get-end (x ∷ left) all r z h = absurd (omega arith)
 
 -- ---- `put_all` and `get_all`: part i of w bytes lies within n parts
 
-part-within : (w i n : ℕ) → i < n → i * w + w ≤ n * w
+pub part-within : (w i n : ℕ) → i < n → i * w + w ≤ n * w
 part-within w i n h = rw suc-mul at (mul-le-mul_right w h)
 
 -- ---- `put_all`: the parts written, and then the bytes of the numbers from i on, are all bytes
+
+pub put_all-start : (w : ℕ) (out xs : List ℕ) → take (0 * w) out ++ bytes_of_all w (drop 0 xs) ≡ bytes_of_all w xs
+put_all-start w out xs = rw zero-mul
 
 pub put_all-turn : (w i : ℕ) (out xs all ys : List ℕ) → i < length xs → length out ≡ length xs * w
     → ys ≡ bytes_of (length (mid_of (i * w) (i * w + w - i * w) out)) (get_or xs i 0)
@@ -92,6 +95,9 @@ put_all-end w i out xs all h l e =
     rw (drop_of_length-le xs h, append-nil, take_all) at e
 
 -- ---- `get_all`: the numbers read, and then those that the bytes from part i on spell, are all numbers
+
+pub get_all-start : (w n : ℕ) (xs bs : List ℕ) → take 0 xs ++ numbers_of w (n - 0) (drop (0 * w) bs) ≡ numbers_of w n bs
+get_all-start w n xs bs = rw (sub-zero, zero-mul)
 
 pub get_all-turn : (w i n x : ℕ) (xs bs all : List ℕ) → i < n → length xs ≡ n → x ≡ number_of (mid_of (i * w) (i * w + w - i * w) bs)
     → take i xs ++ numbers_of w (n - i) (drop (i * w) bs) ≡ all

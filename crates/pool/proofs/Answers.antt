@@ -1,6 +1,5 @@
 -- The answers of the functions of the test: a no where something is wrong, and behind the tests that have passed the answer of the last one.
 --     counts-last, lengths-last    counts, lengths
---     frames-decides, pages-last    frames and pages
 --     sound-refused, sound-last, sound-full    the whole
 -- Assumes nothing.
 use mathlib.Core.Path.{◌≡◌, ap}

@@ -1,6 +1,6 @@
 -- A test's answer and what it tells, and that `sound_test` says whether a pool is sound.
 --     test-passed, test-refuted, decides-passed, decides-refuted    behind `if !test`
---     decides-of, decides-test, decides-iff, decides-same    a test's answer
+--     decides-of, decides-iff, decides-same    a test's answer
 --     limits-decides    the numbers
 --     in_places_test-exact, sound_test-exact, sound_test-decides    a list in its places, and the whole pool
 -- Assumes nothing.

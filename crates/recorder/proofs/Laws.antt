@@ -6,13 +6,13 @@ use Prim.Native.Nat.{ℕ, ◌+◌, ◌*◌, ◌^◌, ◌≤◌, ◌<◌}
 use native.Mathlib.Omega.{arith}
 use lib.Dec.{ltb}
 use borrow.Author.Tests.{leb-true, le-leb, ltb-true, lt-ltb}
-use Rattle.model.specs.Numbers.{Numbers}
+use Rattle.model.specs.Numbers.{Numbers, in_limits}
 use Rattle.model.proofs.Refusals.{first-clear, not-false, and-both}
-use Rattle.trace.specs.Format.{trailer_length, record_of}
+use Rattle.trace.specs.Format.{trailer_length, recorded_on, record_of}
 use Rattle.trace.specs.Encode.{RecordIn}
 use Rattle.trace.specs.declared.Record.{Record}
 use Rattle.trace.specs.declared.Record.TheVariants.{Read, Write, Flush, Drop}
-use Rattle.recorder.specs.Calls.{recorder_of, found_for, room_for, add_rows, close_rows, begin_verdict, add_verdict, close_verdict}
+use Rattle.recorder.specs.Calls.{recorder_of, numbers_of, found_for, room_for, add_rows, close_rows, begin_verdict, add_verdict, close_verdict}
 use Rattle.recorder.specs.declared.Recorder.{Recorder}
 
 -- ---- k records from byte `start` on, and the trailer, in n bytes
@@ -52,15 +52,27 @@ in-found N (Write q v) h = rw (lt-ltb q N h)
 in-found N Flush h = refl
 in-found N (Drop q) h = rw (lt-ltb q N h)
 
--- ---- what a call that is not refused may count on, for a buffer of m bytes: its room
+-- ---- what a call that is not refused may count on, for a buffer of m bytes
 
-pub close-clear : (x : Recorder) (m : ℕ) → close_verdict x m ≡ Ok tt → Room x.start x.records m
+pub close-clear : (x : Recorder) (m : ℕ) → close_verdict x m ≡ Ok tt → (in_limits (recorded_on (numbers_of x)) ≡ true) × Room x.start x.records m
 unfolding close_verdict
-close-clear x m e = room_for-room x.start x.records m (not-false _ (first-clear (close_rows x m) e).1.0)
+close-clear x m e =
+    let c = first-clear (close_rows x m) e in
+    (not-false _ c.0, room_for-room x.start x.records m (not-false _ c.1.0))
 
-pub add-clear : (x : Recorder) (r : Record) (m : ℕ) → add_verdict x r m ≡ Ok tt → Room x.start (x.records + 1) m
+pub add-clear : (x : Recorder) (r : Record) (m : ℕ) → add_verdict x r m ≡ Ok tt
+    → (in_limits (recorded_on (numbers_of x)) ≡ true) × (is_none (found_for x.numbers.pages r) ≡ false) × Room x.start (x.records + 1) m
 unfolding add_verdict
-add-clear x r m e = room_for-room x.start (x.records + 1) m (not-false _ (first-clear (add_rows x r m) e).1.1.0)
+add-clear x r m e =
+    let c = first-clear (add_rows x r m) e in
+    (not-false _ c.0, c.1.0, room_for-room x.start (x.records + 1) m (not-false _ c.1.1.0))
+
+-- its room, for which a buffer is lent
+pub close-room : (x : Recorder) (m : ℕ) → close_verdict x m ≡ Ok tt → Room x.start x.records m
+close-room x m e = (close-clear x m e).1
+
+pub add-room : (x : Recorder) (r : Record) (m : ℕ) → add_verdict x r m ≡ Ok tt → Room x.start (x.records + 1) m
+add-room x r m e = (add-clear x r m e).2
 
 -- ---- a recorder that begins is refused as one that closes behind its notes
 
@@ -70,8 +82,8 @@ begin-as-close n notes m = refl
 
 -- ---- the laws by which `begin`, `add` and `close` meet their contracts: a call that is not refused has room, so that what it puts lies within the buffer
 
-pub ruleset begins = (close-clear, begin-as-close)
+pub ruleset begins = (close-room, begin-as-close)
 
-pub ruleset adds = (add-clear)
+pub ruleset adds = (add-room)
 
-pub ruleset closes = (close-clear)
+pub ruleset closes = (close-room)

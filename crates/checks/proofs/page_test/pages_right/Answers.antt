@@ -1,10 +1,10 @@
 -- `checks::page_test::pages_right` meets its contract: its answer is that of the four tests, which right pages pass, and no others. Assumes nothing.
 use Rattle.std.proofs.Common.{rules}
-use Rattle.checks.proofs.Pages.{empty-below, pages-decides}
+use Rattle.checks.proofs.Pages.{empty-in-places, pages-decides}
 use Rattle.checks.proofs.page_test.pages_right.Goals as goal
 
 pub all_blank-requires : goal.all_blank-requires
-all_blank-requires c = empty-below c.args.frames c.args.empty.now c.requires.fit.0 c.requires.empty_right
+all_blank-requires c = empty-in-places c.args.frames c.args.empty.now c.requires.fit.0 c.requires.empty_right
 
 pub returns-then-count_in-empty : goal.returns-then-count_in-empty
 returns-then-count_in-empty c =
